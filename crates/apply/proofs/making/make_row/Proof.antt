@@ -1,0 +1,84 @@
+-- `apply::making::make_row` meets its contract. Assumes nothing.
+use Prim.Native.Nat.{_-_}
+use native.Mathlib.Omega.{arith}
+use lib.ListN.{length}
+use borrow.Author.Needs.{needs}
+use Rattle.apply.proofs.Operands.{transform-more}
+use Rattle.apply.proofs.RowMade.{row-made}
+use Rattle.value.proofs.Machine.{back-is}
+use Rattle.apply.proofs.making.make_row.Statement.{statement}
+use Rattle.apply.proofs.making.make_row.Tie as tie
+use denote.Ref.{now}
+
+new-value-requires : tie.Need-new-value-requires
+new-value-requires c κs =
+    let a = c .before .before .args in
+    let p = c .before .before .pre in
+    (omega (arith, p .0, p .1 .0), transform-more (a .transform) (a .columns) (length (now (a .values)) - a .from) (omega (arith, p .0)) (p .1 .1))
+
+add-new-label : tie.Need-add-new-label
+add-new-label c = search needs
+
+mul-new-label : tie.Need-mul-new-label
+mul-new-label c = search needs
+
+slice-read-new-label : tie.Need-slice-read-new-label
+slice-read-new-label c = search needs
+
+new-label-requires : tie.Need-new-label-requires
+new-label-requires c κs = search needs
+
+copy-up-requires : tie.Need-copy-up-requires
+copy-up-requires c κs = search needs
+
+add-value : tie.Need-add-value
+add-value c = search needs
+
+mul-value : tie.Need-mul-value
+mul-value c = search needs
+
+slice-set-from-value : tie.Need-slice-set-from-value
+slice-set-from-value c = search needs
+
+add-labels : tie.Need-add-labels
+add-labels c = search needs
+
+mul-labels : tie.Need-mul-labels
+mul-labels c = search needs
+
+slice-write-labels : tie.Need-slice-write-labels
+slice-write-labels c = search needs
+
+same-length : tie.Need-same-length
+same-length c = search needs
+
+same-length-2 : tie.Need-same-length-2
+same-length-2 c = search needs
+
+returns : tie.Need-returns
+returns c =
+    let a = c .before .before .before .before .before .before .before .before .before .before .before .args in
+    let p = c .before .before .before .before .before .before .before .before .before .before .before .pre in
+    rw (back-is _ (c .before .before .before .before .before .before .before .before .new-value .ok))
+    (row-made (now (a .values)) (now (a .labels)) (a .from) (a .columns) (a .column) (a .transform) (omega (arith, p .0)) (omega (arith, p .0)) (p .1 .0) (p .1 .1) (a .to) _ _ _ _ (p .0 .1) (p .0 .2) (p .0 .3)
+    (c .before .before .before .copy-up .ensures) (c .before .before .before .before .before .before .before .before .new-value .ensures) (c .before .before .before .before .before .before .new-label .ensures))
+
+pub make-row-spec : {M : Type 1} → statement M
+make-row-spec =
+    tie.close
+    (tie.spec
+    new-value-requires
+    add-new-label
+    mul-new-label
+    slice-read-new-label
+    new-label-requires
+    copy-up-requires
+    add-value
+    mul-value
+    slice-set-from-value
+    add-labels
+    mul-labels
+    slice-write-labels
+    same-length
+    same-length-2
+    returns)

@@ -1,0 +1,38 @@
+-- `apply::refusing::row_refusal` meets its contract. Assumes nothing.
+use lib.Seq.{getD-drop}
+use borrow.Author.Needs.{needs}
+use Rattle.apply.proofs.refusing.row_refusal.Statement.{statement}
+use Rattle.apply.proofs.refusing.row_refusal.Tie as tie
+
+add-first-refusal : tie.Need-add-first-refusal
+add-first-refusal c = search needs
+
+mul-first-refusal : tie.Need-mul-first-refusal
+mul-first-refusal c = search needs
+
+shared-slice-read-first-refusal : tie.Need-shared-slice-read-first-refusal
+shared-slice-read-first-refusal c = search needs
+
+first-refusal-requires : tie.Need-first-refusal-requires
+first-refusal-requires c κs = search needs
+
+second-refusal-requires : tie.Need-second-refusal-requires
+second-refusal-requires c κs = search needs
+
+earlier-requires : tie.Need-earlier-requires
+earlier-requires c κs = search needs
+
+returns : tie.Need-returns
+returns c = rw (getD-drop) (c .earlier .ensures _ _ (c .before .before .first-refusal .ensures) (c .before .second-refusal .ensures))
+
+pub row-refusal-spec : {M : Type 1} → statement M
+row-refusal-spec =
+    tie.close
+    (tie.spec
+    add-first-refusal
+    mul-first-refusal
+    shared-slice-read-first-refusal
+    first-refusal-requires
+    second-refusal-requires
+    earlier-requires
+    returns)

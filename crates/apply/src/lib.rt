@@ -1,0 +1,8 @@
+// The step APPLY over work memory. It tests every row first, makes its table in the last slot and moves it to the top table's place.
+mod fitting;
+mod labelling;
+mod making;
+mod refusing;
+mod step;
+
+pub use step::apply;

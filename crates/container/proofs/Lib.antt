@@ -1,0 +1,14 @@
+-- What the proofs share. AcceptedPlan, AcceptedTables and Verdicts are for the proofs of other crates to cite.
+pub mod AcceptedPlan
+pub mod AcceptedTables
+mod CellsLeft
+mod CellsRead
+mod Directory
+mod Header
+mod Lists
+mod Numbers
+mod Records
+mod Stacks
+mod StepsLeft
+mod TablesLeft
+pub mod Verdicts

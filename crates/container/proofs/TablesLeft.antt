@@ -1,0 +1,56 @@
+-- The check of a container's tables, at one table, and their widths. Assumes nothing.
+use Prim.Native.Nat.{ℕ, zero, suc, _+_, _-_, _≤_, _<_}
+use mathlib.Core.Path.{_≡_, refl, sym, ap, _∙_}
+use mathlib.Core.List.{List, [], _∷_, _++_}
+use native.Mathlib.Nat.{add-zero, add-suc, suc-add}
+use native.Mathlib.Numerals.{add-one}
+use native.Mathlib.Omega.{arith}
+use lib.ListN.{length, take}
+use Rattle.container.specs.Check.{accepted, said, orElse, checkTable, checkTables, tableWidths}
+use Rattle.container.specs.Layout.{offsetOf, partOf}
+use Rattle.container.specs.TablePart.{columnsOf}
+use Rattle.container.specs.declared.Check.{Check}
+use Rattle.container.specs.declared.Check.the-variants as check
+use Rattle.container.proofs.Lists.{one-left}
+use Rattle.container.proofs.Verdicts.{Refuses, stands}
+
+-- the tables before one are as they should be: what is left of the check
+pub record Tables (bytes : List ℕ) (count index : ℕ) : Type 0 where
+  pub first : 1 ≤ index
+  pub done : index ≤ count
+  pub left : checkTables bytes 1 (count - 1) ≡ checkTables bytes index (count - index)
+
+pub begin : (bytes : List ℕ) (count : ℕ) → 1 ≤ count → Tables bytes count 1
+begin bytes count h = record { first = omega arith; done = h; left = refl }
+
+module _ {bytes : List ℕ} {count index : ℕ} (p : Tables bytes count index) where
+  table-left : index < count
+      → checkTables bytes 1 (count - 1) ≡ orElse (checkTable (partOf bytes index) (offsetOf bytes index)) (checkTables bytes (suc index) (count - suc index))
+  table-left h = p .left ∙ rw (one-left index count h)
+
+  module _ (r : Check) (h : index < count) (e : said r ≡ checkTable (partOf bytes index) (offsetOf bytes index)) where
+    pub stopped : Refuses r → said r ≡ checkTables bytes 1 (count - 1)
+    stopped k = rw (table-left h, ← e) (sym (stands r (checkTables bytes (suc index) (count - suc index)) k))
+
+    pub keep : r ≡ check.Accepted → Tables bytes count (index + 1)
+    keep k =
+        let i = p .first in
+        record { first = omega arith; done = omega arith; left = rw (table-left h, ← e, k, add-one index) }
+
+  pub finish : count ≤ index → accepted ≡ checkTables bytes 1 (count - 1)
+  finish h = let z : count - index ≡ 0 = omega arith in rw (p .left, z)
+
+-- one width more
+pub widths-more : (bytes : List ℕ) (part n : ℕ) → tableWidths bytes part (suc n) ≡ tableWidths bytes part n ++ (columnsOf (partOf bytes (part + n)) ∷ [])
+widths-more bytes part zero = rw (add-zero part)
+widths-more bytes part (suc n) =
+    ap (λ (l : List ℕ). columnsOf (partOf bytes part) ∷ l)
+    (rw (add-suc part n ∙ sym (suc-add part n)) (widths-more bytes (suc part) n))
+
+widths-length : (bytes : List ℕ) (part n : ℕ) → length (tableWidths bytes part n) ≡ n
+widths-length bytes part zero = refl
+widths-length bytes part (suc n) = ap suc (widths-length bytes (suc part) n)
+
+-- as many widths as tables are there
+pub all-there : (bytes : List ℕ) (part n : ℕ) (widths : List ℕ) → take n widths ≡ tableWidths bytes part n → length (take n widths) ≡ n
+all-there bytes part n widths e = ap length e ∙ widths-length bytes part n

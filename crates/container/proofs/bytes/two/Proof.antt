@@ -1,0 +1,46 @@
+-- `container::bytes::two` meets its contract. Assumes nothing.
+use borrow.Author.Needs.{needs}
+use Rattle.container.proofs.Numbers.{joined, number-one}
+use Rattle.container.proofs.bytes.two.Statement.{statement}
+use Rattle.container.proofs.bytes.two.Tie as tie
+use denote.Ref.{now}
+
+byte-requires : tie.Need-byte-requires
+byte-requires c κs = search needs
+
+cast-result : tie.Need-cast-result
+cast-result c = search needs
+
+add-byte : tie.Need-add-byte
+add-byte c = search needs
+
+byte-requires-2 : tie.Need-byte-requires-2
+byte-requires-2 c κs = search needs
+
+cast-result-2 : tie.Need-cast-result-2
+cast-result-2 c = search needs
+
+mul-result : tie.Need-mul-result
+mul-result c = search needs
+
+add-result : tie.Need-add-result
+add-result c = search needs
+
+returns : tie.Need-returns
+returns c =
+    joined (now (c .before .before .before .args .bytes)) (c .before .before .before .args .at) 1 1
+    (number-one (now (c .before .before .before .args .bytes)) (c .before .before .before .args .at) (c .before .byte .ensures))
+    (number-one _ _ (c .byte2 .ensures))
+
+pub two-spec : {M : Type 1} → statement M
+two-spec =
+    tie.close
+    (tie.spec
+    byte-requires
+    cast-result
+    add-byte
+    byte-requires-2
+    cast-result-2
+    mul-result
+    add-result
+    returns)

@@ -1,0 +1,41 @@
+-- The aggregate of a group in memory. Assumes nothing.
+use Prim.Native.Nat.{ℕ, _+_, _-_, _*_, _≤_, _<_}
+use mathlib.Core.Path.{_≡_, ap, _∙_}
+use mathlib.Core.List.{List, map}
+use native.Mathlib.Omega.{arith}
+use lib.IntN.{ℤ}
+use lib.ListN.{length, drop, length-map}
+use Rattle.group.specs.Members.{rowOf, rowsFrom, later, members}
+use Rattle.group.specs.Summaries.{valuesIn, single, summaryFrom, valueOf}
+use Rattle.group.specs.declared.Grouping.{Grouping}
+use Rattle.group.specs.declared.Summary.{Summary}
+use Rattle.plan.specs.Group.{aggregateValue}
+use Rattle.plan.specs.Table.{Cell, cellAt}
+use Rattle.group.proofs.Choosing.{chosen-fewer}
+use Rattle.group.proofs.Summing.{rows-from, value-is}
+use Rattle.memory.proofs.Rows.{rows-length}
+
+module _ (g : Grouping) (memory : List Cell) (leaders : List ℕ) (row : ℕ) (s : Summary) (few : g .rows ≤ 256) (h : row < g .rows)
+    (e : s ≡ summaryFrom (single (cellAt (g .column) (rowOf g memory row) .value)) (valuesIn (g .column) (later g memory leaders row))) where
+  few-later : length (later g memory leaders row) < g .rows
+  few-later =
+      let after = drop (g .at + (row + 1) * g .columns) memory in
+      omega (arith, chosen-fewer row (drop (row + 1) leaders) (rowsFrom g memory (row + 1)), rows-length (g .columns) (g .rows - (row + 1)) after)
+
+  first : ℤ
+  first = cellAt (g .column) (rowOf g memory row) .value
+
+  others : List ℤ
+  others = valuesIn (g .column) (later g memory leaders row)
+
+  as-many : length others ≡ length (later g memory leaders row)
+  unfolding others
+  as-many = length-map (map (cellAt (g .column)) (later g memory leaders row)) (λ (cell : Cell). cell .value) ∙ length-map (later g memory leaders row) (cellAt (g .column))
+
+  pub size-is : s .rows ≡ length (members g memory leaders row)
+  unfolding first others
+  size-is = ap (λ (s : Summary). s .rows) e ∙ rows-from (single first) others ∙ omega (arith, as-many)
+
+  pub aggregate-is : valueOf (g .aggregate) s ≡ aggregateValue (g .aggregate) (valuesIn (g .column) (members g memory leaders row))
+  unfolding first others
+  aggregate-is = ap (valueOf (g .aggregate)) e ∙ value-is first others (omega (arith, as-many, few-later)) (g .aggregate)

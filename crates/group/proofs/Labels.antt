@@ -1,0 +1,72 @@
+-- Labels discharged and composed through the label library. Assumes nothing.
+use Prim.Native.Nat.{ℕ, _<_}
+use mathlib.Core.Path.{_≡_, refl, _∙_}
+use mathlib.Core.Bool.{true}
+use mathlib.Core.List.{List, _∷_}
+use native.Mathlib.Omega.{arith}
+use borrow.Author.Tests.{lt-ltb}
+use Rattle.group.specs.Members.{AllowedLabel, Allowed}
+use Rattle.group.specs.Summaries.{labelsIn}
+use Rattle.label.specs.Answers.{said, label}
+use Rattle.label.specs.Composition.{composed, composeAnswer}
+use Rattle.label.specs.Discharge.{afterA, aggregateExists, aggregated, aggregateAnswer}
+use Rattle.label.specs.WellFormed.{wellFormed}
+use Rattle.label.specs.declared.Answer.{Answer}
+use Rattle.label.specs.declared.Answer.the-variants.{Label, Forbidden, IllFormed, NoOperation}
+use Rattle.plan.specs.Group.{composedAfter}
+use Rattle.plan.specs.Numbers.{aggregateCode}
+use Rattle.plan.specs.Sense.{Each}
+use Rattle.plan.specs.Table.{Row, cellAt}
+use Rattle.plan.specs.declared.Aggregate.{Aggregate}
+use Rattle.plan.specs.declared.Aggregate.the-variants.{Count, Sum, Min, Max, Avg}
+use Rattle.label.proofs.Laws.{compose-well-formed, after-A-well-formed, zero-well-formed}
+
+pub is-label : (answer : Answer) (word : ℕ) → said answer ≡ label word → answer ≡ Label word
+is-label (Label w) word e = cc
+is-label Forbidden word e = cc
+is-label IllFormed word e = cc
+is-label NoOperation word e = cc
+
+pub discharged : (answer : Answer) (word code rows : ℕ) → said answer ≡ aggregateAnswer word code rows → AllowedLabel word → code < 5 → answer ≡ Label (afterA word code rows)
+unfolding aggregateAnswer aggregateExists aggregated
+discharged answer word code rows e a h = is-label answer (afterA word code rows) (e ∙ rw (a .0, lt-ltb code 5 h, a .1))
+
+pub composes : (answer : Answer) (a b : ℕ) → said answer ≡ composeAnswer a b → wellFormed a ≡ true → wellFormed b ≡ true → answer ≡ Label (composed a b)
+unfolding composeAnswer
+composes answer a b e p q = is-label answer (composed a b) (e ∙ rw (p, q))
+
+-- what stands in the answer
+pub word-of : {answer : Answer} {a b : ℕ} → answer ≡ Label a → answer ≡ Label b → a ≡ b
+word-of p q = cc
+
+pub few-codes : (aggregate : Aggregate) → aggregateCode aggregate < 5
+few-codes Count = omega arith
+few-codes Sum = omega arith
+few-codes Min = omega arith
+few-codes Max = omega arith
+few-codes Avg = omega arith
+
+-- a label composed with a row's, discharged
+pub composed-formed : (all next code size : ℕ) → wellFormed all ≡ true → wellFormed next ≡ true → wellFormed (composed all (afterA next code size)) ≡ true
+composed-formed all next code size p q = compose-well-formed all (afterA next code size) p (after-A-well-formed next code size q)
+
+-- a composition so far, the members that are left, and the rows that are left
+pub record Composing (code size column whole all : ℕ) (left rows : List Row) : Type 0 where
+  pub formed : wellFormed all ≡ true
+  pub allowed : Each (Allowed column) rows
+  pub rest : whole ≡ composedAfter code size all (labelsIn column left)
+
+pub none-composed : (code size column : ℕ) (left rows : List Row) → Each (Allowed column) rows → Composing code size column (composedAfter code size 0 (labelsIn column left)) 0 left rows
+none-composed code size column left rows a = record { formed = zero-well-formed; allowed = a; rest = refl }
+
+module _ {code size column whole all : ℕ} {left rows : List Row} {row : Row} where
+  pub label-taken : {next : ℕ} → Composing code size column whole all (row ∷ left) (row ∷ rows) → next ≡ composed all (afterA (cellAt column row .label) code size)
+      → Composing code size column whole next left rows
+  label-taken c e = record {
+    formed = rw e (composed-formed all (cellAt column row .label) code size (c .formed) (c .allowed .0 .0));
+    allowed = c .allowed .1;
+    rest = rw e (c .rest);
+  }
+
+  pub label-passed : Composing code size column whole all left (row ∷ rows) → Composing code size column whole all left rows
+  label-passed c = record { formed = c .formed; allowed = c .allowed .1; rest = c .rest }

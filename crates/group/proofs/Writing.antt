@@ -1,0 +1,63 @@
+-- A row of keys and an aggregate, written cell by cell. Assumes nothing.
+use Prim.Native.Nat.{ℕ, zero, suc, _+_, _-_, _≤_, _<_}
+use mathlib.Core.Path.{_≡_, sym, _∙_}
+use mathlib.Core.Bool.{true, false}
+use mathlib.Core.List.{List, [], _∷_, _++_, append-nil}
+use native.Mathlib.Nat.{add-zero, add-suc, le-refl}
+use native.Mathlib.Numerals.{add-one}
+use native.Mathlib.Omega.{arith}
+use lib.IntN.{ℤ, pos}
+use lib.ListN.{length, getD, drop, set}
+use lib.Seq.{getD-take, getD-drop}
+use Rattle.group.specs.Made.{cell}
+use Rattle.group.specs.Members.{rowAt}
+use Rattle.label.specs.Word.{bitAt}
+use Rattle.memory.specs.Cells.{cellsOf}
+use Rattle.plan.specs.Keep.{keptCount, keptCells}
+use Rattle.plan.specs.Table.{Cell, blank, cellAt}
+use Rattle.memory.proofs.CellLaws.{cells-get, cells-set}
+use Rattle.memory.proofs.Written.{Written, one-written, read-below}
+use Rattle.plan.proofs.SenseShape.{kept-length}
+
+-- ---- how many columns are keys
+
+pub count-key : (keys column : ℕ) → bitAt keys column ≡ true → keptCount keys (column + 1) ≡ keptCount keys column + 1
+count-key keys column e = rw (add-one column, e)
+
+pub count-other : (keys column : ℕ) → bitAt keys column ≡ false → keptCount keys (column + 1) ≡ keptCount keys column
+count-other keys column e = rw (add-one column, e) (add-zero (keptCount keys column))
+
+counts-grow : (keys column more : ℕ) → keptCount keys column ≤ keptCount keys (column + more)
+counts-grow keys column zero = rw (add-zero column) (le-refl (keptCount keys column))
+counts-grow keys column (suc more) = rw (add-suc column more) (omega (arith, counts-grow keys column more))
+
+pub count-le : (keys column columns : ℕ) → column ≤ columns → keptCount keys column ≤ keptCount keys columns
+count-le keys column columns h = let e : column + (columns - column) ≡ columns = omega arith in rw e at (counts-grow keys column (columns - column))
+
+-- ---- one cell more
+
+module _ (memory : List Cell) (keys columns column from to : ℕ) (vs : List ℤ) (ls : List ℕ)
+    (w : Written memory to (keptCells keys column (rowAt columns memory from)) (cellsOf vs ls)) (h : column < columns) (below : from + columns ≤ to) where
+  pub key-passed : bitAt keys column ≡ false → Written memory to (keptCells keys (column + 1) (rowAt columns memory from)) (cellsOf vs ls)
+  key-passed e = rw (add-one column, e, append-nil) w
+
+  module _ (room : to + keptCount keys column < length memory) (in-values : from + column < length vs) (in-labels : from + column < length ls) where
+    read : cellAt column (rowAt columns memory from) ≡ cell (getD vs (from + column) (pos 0)) (getD ls (from + column) 0)
+    read =
+        getD-take columns (drop from memory) column blank h ∙ getD-drop from memory column blank
+        ∙ sym (read-below w (from + column) blank (omega arith)) ∙ cells-get vs ls (from + column) (pos 0) in-values in-labels
+
+    pub key-written : bitAt keys column ≡ true
+        → Written memory to (keptCells keys (column + 1) (rowAt columns memory from))
+        (cellsOf (set vs (to + keptCount keys column) (getD vs (from + column) (pos 0))) (set ls (to + keptCount keys column) (getD ls (from + column) 0)))
+    key-written e =
+        let l : length (keptCells keys column (rowAt columns memory from)) ≡ keptCount keys column = kept-length keys column (rowAt columns memory from) in
+        rw (add-one column, e, cells-set vs ls (to + keptCount keys column) (getD vs (from + column) (pos 0)) (getD ls (from + column) 0), read) (rw l at (one-written w (cell (getD vs (from + column) (pos 0)) (getD ls (from + column) 0)) (rw l room)))
+
+-- the aggregate, after the keys
+pub last-written : (memory : List Cell) (keys columns from to : ℕ) (vs : List ℤ) (ls : List ℕ) (v : ℤ) (l : ℕ) → Written memory to (keptCells keys columns (rowAt columns memory from)) (cellsOf vs ls)
+    → to + keptCount keys columns < length memory
+    → Written memory to (keptCells keys columns (rowAt columns memory from) ++ (cell v l ∷ [])) (cellsOf (set vs (to + keptCount keys columns) v) (set ls (to + keptCount keys columns) l))
+last-written memory keys columns from to vs ls v l w room =
+    let e : length (keptCells keys columns (rowAt columns memory from)) ≡ keptCount keys columns = kept-length keys columns (rowAt columns memory from) in
+    rw (cells-set vs ls (to + keptCount keys columns) v l) (rw e at (one-written w (cell v l) (rw e room)))

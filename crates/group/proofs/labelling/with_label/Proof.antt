@@ -1,0 +1,61 @@
+-- `group::labelling::with_label` meets its contract: labels that allow it are discharged and composed, and no other answer comes. Assumes nothing.
+use Prim.Native.Nat.{_<_}
+use mathlib.Core.Path.{_≡_, refl}
+use mathlib.Core.Bool.{true}
+use mathlib.Core.List.{[], _∷_}
+use borrow.Author.Needs.{needs}
+use Rattle.group.specs.Members.{AllowedLabel}
+use Rattle.label.specs.Composition.{composed}
+use Rattle.label.specs.Discharge.{afterA}
+use Rattle.label.specs.WellFormed.{wellFormed}
+use Rattle.label.specs.declared.Answer.the-variants.{Label}
+use Rattle.group.proofs.Labels.{word-of, discharged, composes}
+use Rattle.group.proofs.Tags.{not-first}
+use Rattle.label.proofs.Laws.{after-A-well-formed}
+use Rattle.group.proofs.labelling.with_label.Statement.{statement}
+use Rattle.group.proofs.labelling.with_label.Tie as tie
+
+-- what composition makes of the label that is left
+made : (c : tie.After-compose) → let s = c .before .before .before .before .before .args in
+    wellFormed (s .all) ≡ true → AllowedLabel (s .next) → s .code < 5 → c .compose .result ≡ Label (composed (s .all) (afterA (s .next) (s .code) (s .size)))
+made c a n h =
+    let s = c .before .before .before .before .before .args in
+    let r = c .before .before .before .before .discharge-aggregate in
+    let left : c .before .before .discharged .given .0 .0 ≡ afterA (s .next) (s .code) (s .size) = word-of (c .before .before .discharged .given .1) (discharged (r .result) (s .next) (s .code) (s .size) (r .ensures) n h) in
+    composes (c .compose .result) (s .all) (afterA (s .next) (s .code) (s .size)) (rw left at (c .compose .ensures)) a (after-A-well-formed (s .next) (s .code) (s .size) (n .0))
+
+discharge-aggregate-requires : tie.Need-discharge-aggregate-requires
+discharge-aggregate-requires c κs = search needs
+
+enum-known-discharged : tie.Need-enum-known-discharged
+enum-known-discharged c = search needs
+
+returns : tie.Need-returns
+returns c = λ a n h.
+    let s = c .before .before .args in
+    let r = c .before .discharge-aggregate in
+    absurd (not-first (1 ∷ 2 ∷ 3 ∷ []) refl (rw (discharged (r .result) (s .next) (s .code) (s .size) (r .ensures) n h) at (c .match .keys2)))
+
+compose-requires : tie.Need-compose-requires
+compose-requires c κs = search needs
+
+enum-known-composed : tie.Need-enum-known-composed
+enum-known-composed c = search needs
+
+returns-2 : tie.Need-returns-2
+returns-2 c = λ a n h. absurd (not-first (1 ∷ 2 ∷ 3 ∷ []) refl (rw (made (c .before) a n h) at (c .match2 .keys2)))
+
+returns-3 : tie.Need-returns-3
+returns-3 c = λ a n h. word-of (c .before .composed .given .1) (made (c .before .before .before) a n h)
+
+pub with-label-spec : {M : Type 1} → statement M
+with-label-spec =
+    tie.close
+    (tie.spec
+    discharge-aggregate-requires
+    enum-known-discharged
+    returns
+    compose-requires
+    enum-known-composed
+    returns-2
+    returns-3)

@@ -1,0 +1,67 @@
+-- `group::made::write_group` meets its contract: the cell after the keys is the group's aggregate. Assumes nothing.
+use mathlib.Core.Path.{_≡_, _∙_}
+use lib.ListN.{length}
+use borrow.Author.Needs.{needs}
+use Rattle.group.specs.Members.{Inside, Allowed, members, rowsFrom, rowsIn}
+use Rattle.group.specs.Summaries.{valuesIn, labelsIn}
+use Rattle.memory.specs.Cells.{cellsOf}
+use Rattle.plan.specs.Group.{aggregateValue, composedAfter}
+use Rattle.plan.specs.Numbers.{aggregateCode}
+use Rattle.plan.specs.Sense.{Each}
+use Rattle.group.proofs.Aggregating.{size-is, aggregate-is}
+use Rattle.group.proofs.Choosing.{rows-left, each-drop}
+use Rattle.value.proofs.Machine.{back-is}
+use Rattle.group.proofs.made.write_group.Statement.{statement}
+use Rattle.group.proofs.made.write_group.Tie as tie
+
+summary-requires : tie.Need-summary-requires
+summary-requires c κs = search needs
+
+group-label-requires : tie.Need-group-label-requires
+group-label-requires c κs = search needs
+
+value-of-requires : tie.Need-value-of-requires
+value-of-requires c κs = search needs
+
+write-row-requires : tie.Need-write-row-requires
+write-row-requires c κs = search needs
+
+same-length : tie.Need-same-length
+same-length c = search needs
+
+same-length-2 : tie.Need-same-length-2
+same-length-2 c = search needs
+
+returns : tie.Need-returns
+returns c =
+    let r = c .before .before .before in
+    let v = r .before .before .before in
+    let l = v .before in
+    let u = l .before .before in
+    let s = u .before .before .before in
+    let a = s .args in
+    let p = s .pre in
+    let M = cellsOf (a .values .now) (a .labels .now) in
+    let in-values : Inside (a .g) (length (a .values .now)) = search needs in
+    let in-labels : Inside (a .g) (length (a .labels .now)) = search needs in
+    let sum = u .summary .ensures (a .labels .now) in-labels in
+    let group = members (a .g) M (a .leaders .now) (a .row) in
+    let allowed : Each (Allowed (a .g .column)) (rowsFrom (a .g) M (a .row)) = rw rows-left (each-drop (Allowed (a .g .column)) (a .row) (rowsIn (a .g) M) (p .1 .0)) in
+    let size = size-is (a .g) M (a .leaders .now) (a .row) (u .summary .result) (p .0 .few-rows) (p .1 .1 .0) sum in
+    let value : v .value-of .result ≡ aggregateValue (a .g .aggregate) (valuesIn (a .g .column) group)
+    = v .value-of .ensures ∙ aggregate-is (a .g) M (a .leaders .now) (a .row) (u .summary .result) (p .0 .few-rows) (p .1 .1 .0) sum in
+    let label : l .group-label .result ≡ composedAfter (aggregateCode (a .g .aggregate)) (length group) 0 (labelsIn (a .g .column) group)
+    = rw size at (l .group-label .ensures (a .values .now) in-values allowed) in
+    rw (back-is (v .value-of .result) (v .value-of .ok), value, label) at (r .write-row .ensures)
+
+pub write-group-spec : {M : Type 1} → statement M
+write-group-spec =
+    tie.close
+    (tie.spec
+    summary-requires
+    group-label-requires
+    value-of-requires
+    write-row-requires
+    same-length
+    same-length-2
+    returns)

@@ -1,0 +1,88 @@
+-- The rows of a table in memory, and which of them make a group.
+use Prim.Native.Nat.{ℕ, suc, _+_, _-_, _*_, _≤_, _<_}
+use mathlib.Core.Path.{_≡_}
+use mathlib.Core.Bool.{true, false, cond}
+use mathlib.Core.List.{List, [], _∷_, _++_}
+use lib.Dec.{eqb}
+use lib.ListN.{getD, take, drop}
+use Rattle.group.specs.declared.Grouping.{Grouping}
+use Rattle.label.specs.Discharge.{forbidsA}
+use Rattle.label.specs.WellFormed.{wellFormed}
+use Rattle.memory.specs.Cells.{gridOf}
+use Rattle.memory.specs.Stack.{slot}
+use Rattle.memory.specs.declared.Stack.{Stack}
+use Rattle.plan.specs.Group.{sameKeys}
+use Rattle.plan.specs.Table.{Cell, Row, cellAt, rowsOf}
+use Rattle.plan.specs.Verdict.{Verdict, refuseIf}
+use Rattle.plan.specs.declared.Aggregate.{Aggregate}
+
+-- the GROUP of the last table pushed
+abbrev pub sourceOf : Stack → ℕ → Aggregate → ℕ → Grouping
+sourceOf stack keys aggregate column = record {
+  at = slot (stack .depth - 1);
+  rows = getD (stack .rows) (stack .depth - 1) 0;
+  columns = getD (stack .columns) (stack .depth - 1) 0;
+  keys = keys;
+  aggregate = aggregate;
+  column = column;
+}
+
+-- a table that lies within a slice of this length, with the column that is aggregated
+pub record Inside (g : Grouping) (length : ℕ) : Type 0 where
+  pub few-rows : g .rows ≤ 256
+  pub few-columns : g .columns ≤ 8
+  pub has-column : g .column < g .columns
+  pub within : g .at + g .rows * g .columns ≤ length
+
+-- the table's labels
+abbrev pub gridIn : Grouping → List ℕ → List (List ℕ)
+gridIn g labels = gridOf (g .columns) (g .rows) (drop (g .at) labels)
+
+-- 32 in one row
+abbrev pub forbidsAt : ℕ → ℕ → List ℕ → Verdict
+forbidsAt column row labels = refuseIf (forbidsA (getD labels column 0)) 32 row column
+
+-- the row that begins at a place
+abbrev pub rowAt : ℕ → List Cell → ℕ → Row
+rowAt columns memory place = record { cells = take columns (drop place memory) }
+
+-- the table's rows, and one of them
+abbrev pub rowsIn : Grouping → List Cell → List Row
+rowsIn g memory = rowsOf (g .columns) (g .rows) (drop (g .at) memory)
+
+abbrev pub rowOf : Grouping → List Cell → ℕ → Row
+rowOf g memory row = rowAt (g .columns) memory (g .at + row * g .columns)
+
+-- the number of the first of the earlier rows with the keys of a row; where there is none, how many they are
+abbrev pub firstSame : ℕ → ℕ → Row → List Row → ℕ
+firstSame keys columns row [] = 0
+firstSame keys columns row (other ∷ rest) = cond (sameKeys keys columns other row) 0 (suc (firstSame keys columns row rest))
+
+-- for each row the number of the first row with its keys
+abbrev pub leadersAfter : ℕ → ℕ → List Row → List Row → List ℕ
+leadersAfter keys columns earlier [] = []
+leadersAfter keys columns earlier (row ∷ rest) = firstSame keys columns row earlier ∷ leadersAfter keys columns (earlier ++ (row ∷ [])) rest
+
+-- the elements beside a number
+abbrev pub chosen : {A : Type 0} → ℕ → List ℕ → List A → List A
+chosen number numbers [] = []
+chosen number [] (x ∷ list) = []
+chosen number (n ∷ numbers) (x ∷ list) = cond (eqb n number) (x ∷ chosen number numbers list) (chosen number numbers list)
+
+-- the rows from one on
+abbrev pub rowsFrom : Grouping → List Cell → ℕ → List Row
+rowsFrom g memory row = rowsOf (g .columns) (g .rows - row) (drop (g .at + row * g .columns) memory)
+
+-- the later rows beside which a row's number stands
+abbrev pub later : Grouping → List Cell → List ℕ → ℕ → List Row
+later g memory leaders row = chosen row (drop (row + 1) leaders) (rowsFrom g memory (row + 1))
+
+abbrev pub members : Grouping → List Cell → List ℕ → ℕ → List Row
+members g memory leaders row = rowOf g memory row ∷ later g memory leaders row
+
+-- a label that an aggregate may be made of
+abbrev pub AllowedLabel : ℕ → Type 0
+AllowedLabel label = (wellFormed label ≡ true) × (forbidsA label ≡ false)
+
+abbrev pub Allowed : ℕ → Row → Type 0
+Allowed column row = AllowedLabel (cellAt column row .label)

@@ -1,0 +1,79 @@
+// The label of a group's aggregate.
+ghost use mathlib.Core.Path.{_≡_};
+ghost use mathlib.Core.List.{List};
+ghost use mathlib.Core.Bool.{true};
+ghost use Prim.Native.Nat.{_<_};
+ghost use lib.IntN.{ℤ};
+ghost use lib.ListN.{length};
+ghost use Rattle.label.specs.Composition.{composed};
+ghost use Rattle.label.specs.Discharge.{afterA};
+ghost use Rattle.label.specs.WellFormed.{wellFormed};
+ghost use Rattle.plan.specs.Group.{composedAfter};
+ghost use Rattle.plan.specs.Numbers.{aggregateCode};
+ghost use Rattle.plan.specs.Sense.{Each};
+ghost use Rattle.memory.specs.Cells.{cellsOf};
+ghost use Rattle.group.specs.Members as spec;
+ghost use Rattle.group.specs.Summaries as sums;
+use crate::Grouping;
+use label::Answer;
+use plan::Aggregate;
+
+// The labels of the group that a row leads, each discharged over so many rows, composed in row order.
+pub fn group_label(
+    labels: &[u32],
+    leaders: &[usize; 256],
+    g: Grouping,
+    row: usize,
+    size: u32,
+) -> u32
+    requires { ⌜ spec.Inside g (length (now labels)) ⌝ }
+    requires { ⌜ (row < g .rows) × (length (now leaders) ≡ 256) ⌝ }
+    ensures { λ r. ⌜ ((values : List ℤ) → spec.Inside g (length values) → Each (spec.Allowed (g .column)) (spec.rowsFrom g (cellsOf values (now (labels .entry))) row) → r ≡ composedAfter (aggregateCode (g .aggregate)) size 0 (sums.labelsIn (g .column) (spec.members g (cellsOf values (now (labels .entry))) (now (leaders .entry)) row))) ⌝ }
+{
+    let rows = g.rows;
+    let columns = g.columns;
+    let column = g.column;
+    let at = g.at;
+    let aggregate = g.aggregate;
+    let code = code_of(aggregate);
+    let mut place = at + row * columns;
+    let mut all = with_label(0, labels[place + column], code, size);
+    place += columns;
+    let mut other = row + 1;
+    while other < rows {
+        if leaders[other] == row {
+            all = with_label(all, labels[place + column], code, size);
+        }
+        place += columns;
+        other += 1;
+    }
+    all
+}
+
+// A label composed with another one, discharged. Words that are no labels, or forbid it, are not met.
+fn with_label(all: u32, next: u32, code: u32, size: u32) -> u32
+    ensures { λ r. ⌜ (wellFormed all ≡ true → spec.AllowedLabel next → code < 5 → r ≡ composed all (afterA next code size)) ⌝ }
+{
+    let discharged = label::discharge_aggregate(next, code, size);
+    let Answer::Label(left) = discharged else {
+        return 0;
+    };
+    let composed = label::compose(all, left);
+    let Answer::Label(both) = composed else {
+        return 0;
+    };
+    both
+}
+
+// An aggregate's number.
+fn code_of(aggregate: Aggregate) -> u32
+    ensures { λ r. ⌜ r ≡ aggregateCode aggregate ⌝ }
+{
+    match aggregate {
+        Aggregate::Count => 0,
+        Aggregate::Sum => 1,
+        Aggregate::Min => 2,
+        Aggregate::Max => 3,
+        Aggregate::Avg => 4,
+    }
+}

@@ -1,0 +1,31 @@
+// GROUP over work memory. The rows of the groups are made in the last slot, above the table that is grouped, and then copied down over it.
+mod fit;
+mod labelling;
+mod leader;
+mod made;
+mod member;
+mod refusal;
+mod step;
+
+use plan::Aggregate;
+pub use step::group;
+
+// A GROUP of the table of so many rows and columns from a place of work memory on.
+struct Grouping {
+    at: usize,
+    rows: usize,
+    columns: usize,
+    keys: u32,
+    aggregate: Aggregate,
+    column: usize,
+}
+
+// What the aggregates of a group are made of: its rows, whether all its values are in range, their running sum, the smallest and the
+// largest.
+struct Summary {
+    rows: u32,
+    exact: bool,
+    total: i64,
+    least: i64,
+    most: i64,
+}

@@ -1,0 +1,105 @@
+// The rows of the groups, made one after the other from place 6,144 on.
+ghost use mathlib.Core.Path.{_≡_};
+ghost use mathlib.Core.List.{_∷_, [], _++_};
+ghost use Prim.Native.Nat.{_+_, _≤_, _<_};
+ghost use lib.ListN.{length};
+ghost use Rattle.plan.specs.Group.{groupRow};
+ghost use Rattle.plan.specs.Keep.{keptCells};
+ghost use Rattle.plan.specs.Sense.{Each};
+ghost use Rattle.memory.specs.Cells.{cellsOf};
+ghost use Rattle.group.specs.Made as made;
+ghost use Rattle.group.specs.Members as spec;
+use crate::Grouping;
+use crate::fit::key_count;
+use crate::labelling::group_label;
+use crate::leader::leaders;
+use crate::member::summary;
+use crate::member::value_of;
+
+// Puts the rows of all groups in the place of the table, and answers how many there are.
+pub fn replace(values: &mut [i64], labels: &mut [u32], g: Grouping) -> usize
+    requires { ⌜ made.Source g (length (now values)) (length (now labels)) ⌝ }
+    requires { ⌜ Each (spec.Allowed (g .column)) (spec.rowsIn g (cellsOf (now values) (now labels))) ⌝ }
+    ensures { λ r. ⌜ made.Replaced g (now (values .entry)) (now (labels .entry)) r (now (values .exit)) (now (labels .exit)) ⌝ }
+{
+    let count = write_groups(values, labels, g);
+    let width = key_count(g.keys, g.columns) + 1;
+    memory::move_cells(values, labels, 6144, g.at, count * width);
+    count
+}
+
+// Makes the rows of all groups, in the order of their first rows, and answers how many there are.
+fn write_groups(values: &mut [i64], labels: &mut [u32], g: Grouping) -> usize
+    requires { ⌜ made.Source g (length (now values)) (length (now labels)) ⌝ }
+    requires { ⌜ Each (spec.Allowed (g .column)) (spec.rowsIn g (cellsOf (now values) (now labels))) ⌝ }
+    ensures { λ r. ⌜ made.AllMade g (now (values .entry)) (now (labels .entry)) r (now (values .exit)) (now (labels .exit)) ⌝ }
+{
+    let found = leaders(values, g);
+    let rows = g.rows;
+    let width = key_count(g.keys, g.columns) + 1;
+    let mut count = 0;
+    let mut to = 6144;
+    let mut row = 0;
+    while row < rows {
+        if found[row] == row {
+            write_group(values, labels, &found, g, row, to);
+            to += width;
+            count += 1;
+        }
+        row += 1;
+    }
+    count
+}
+
+// Makes the row of the group that a row leads.
+fn write_group(
+    values: &mut [i64],
+    labels: &mut [u32],
+    leaders: &[usize; 256],
+    g: Grouping,
+    row: usize,
+    to: usize,
+)
+    requires { ⌜ made.Source g (length (now values)) (length (now labels)) ⌝ }
+    requires { ⌜ Each (spec.Allowed (g .column)) (spec.rowsIn g (cellsOf (now values) (now labels))) ⌝ }
+    requires { ⌜ (row < g .rows) × (length (now leaders) ≡ 256) × (6144 ≤ to) × (to + made.width g ≤ 8192) ⌝ }
+    ensures { λ r. ⌜ made.Wrote to (groupRow (g .keys) (g .columns) (g .aggregate) (g .column) (spec.members g (cellsOf (now (values .entry)) (now (labels .entry))) (now (leaders .entry)) row) .cells) (now (values .entry)) (now (labels .entry)) (now (values .exit)) (now (labels .exit)) ⌝ }
+{
+    let s = summary(values, leaders, g, row);
+    let label = group_label(labels, leaders, g, row, s.rows);
+    let aggregate = g.aggregate;
+    let value = value_of(s, aggregate);
+    write_row(values, labels, g, row, to, value, label);
+}
+
+// Writes a row's keys, and a value and a label after them.
+fn write_row(
+    values: &mut [i64],
+    labels: &mut [u32],
+    g: Grouping,
+    row: usize,
+    to: usize,
+    value: i64,
+    label: u32,
+)
+    requires { ⌜ made.Source g (length (now values)) (length (now labels)) ⌝ }
+    requires { ⌜ (row < g .rows) × (6144 ≤ to) × (to + made.width g ≤ 8192) ⌝ }
+    ensures { λ r. ⌜ made.Wrote to (keptCells (g .keys) (g .columns) (spec.rowOf g (cellsOf (now (values .entry)) (now (labels .entry))) row) ++ (made.cell value label ∷ [])) (now (values .entry)) (now (labels .entry)) (now (values .exit)) (now (labels .exit)) ⌝ }
+{
+    let columns = g.columns;
+    let keys = g.keys;
+    let at = g.at;
+    let from = at + row * columns;
+    let mut place = to;
+    let mut column = 0;
+    while column < columns {
+        if (keys >> column) % 2 == 1 {
+            values[place] = values[from + column];
+            labels[place] = labels[from + column];
+            place += 1;
+        }
+        column += 1;
+    }
+    values[place] = value;
+    labels[place] = label;
+}

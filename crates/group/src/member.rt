@@ -1,0 +1,87 @@
+// The value of a group's aggregate, made of its members: its first row, and the later rows that the first row leads.
+ghost use mathlib.Core.Path.{_≡_};
+ghost use mathlib.Core.List.{List};
+ghost use Prim.Native.Nat.{ℕ, _<_};
+ghost use lib.ListN.{length};
+ghost use Rattle.plan.specs.Table.{cellAt};
+ghost use Rattle.memory.specs.Cells.{cellsOf};
+ghost use Rattle.group.specs.Members as spec;
+ghost use Rattle.group.specs.Summaries as sums;
+use crate::Grouping;
+use crate::Summary;
+use plan::Aggregate;
+use value::aggregate::accumulated;
+use value::aggregate::average;
+use value::aggregate::larger;
+use value::aggregate::smaller;
+use value::range::OVER;
+use value::range::in_range;
+use value::range::settled;
+
+// The summary of the group that a row leads.
+pub fn summary(values: &[i64], leaders: &[usize; 256], g: Grouping, row: usize) -> Summary
+    requires { ⌜ spec.Inside g (length (now values)) ⌝ }
+    requires { ⌜ (row < g .rows) × (length (now leaders) ≡ 256) ⌝ }
+    ensures { λ r. ⌜ ((labels : List ℕ) → spec.Inside g (length labels) → r ≡ sums.summaryFrom (sums.single (cellAt (g .column) (spec.rowOf g (cellsOf (now (values .entry)) labels) row) .value)) (sums.valuesIn (g .column) (spec.later g (cellsOf (now (values .entry)) labels) (now (leaders .entry)) row))) ⌝ }
+{
+    let rows = g.rows;
+    let columns = g.columns;
+    let column = g.column;
+    let at = g.at;
+    let mut place = at + row * columns;
+    let mut s = single(values[place + column]);
+    place += columns;
+    let mut other = row + 1;
+    while other < rows {
+        if leaders[other] == row {
+            s = with_value(s, values[place + column]);
+        }
+        place += columns;
+        other += 1;
+    }
+    s
+}
+
+// The summary of one value.
+fn single(v: i64) -> Summary
+    ensures { λ r. ⌜ r ≡ sums.single v ⌝ }
+{
+    Summary {
+        rows: 1,
+        exact: in_range(v),
+        total: accumulated(0, v),
+        least: v,
+        most: v,
+    }
+}
+
+// A summary with one value more.
+fn with_value(s: Summary, v: i64) -> Summary
+    requires { ⌜ s .rows < 256 ⌝ }
+    ensures { λ r. ⌜ r ≡ sums.withValue s v ⌝ }
+{
+    Summary {
+        rows: s.rows + 1,
+        exact: s.exact & in_range(v),
+        total: accumulated(s.total, v),
+        least: smaller(s.least, v),
+        most: larger(s.most, v),
+    }
+}
+
+// The aggregate of a group.
+pub fn value_of(s: Summary, aggregate: Aggregate) -> i64
+    ensures { λ r. ⌜ r ≡ sums.valueOf aggregate s ⌝ }
+{
+    match aggregate {
+        Aggregate::Count => s.rows as i64,
+        Aggregate::Sum => if s.exact { settled(s.total) } else { OVER },
+        Aggregate::Min => s.least,
+        Aggregate::Max => s.most,
+        Aggregate::Avg => if s.exact {
+            average(s.total, s.rows)
+        } else {
+            OVER
+        },
+    }
+}

@@ -1,0 +1,3 @@
+-- What the parts of a join promise each other.
+pub mod Ends
+pub mod Pairs

@@ -1,0 +1,123 @@
+// The rows of a join, made one after the other from place 6,144 on.
+ghost use mathlib.Core.Path.{_≡_};
+ghost use Prim.Native.Nat.{_+_, _-_, _*_, _≤_, _<_};
+ghost use lib.ListN.{length};
+ghost use Rattle.memory.specs.Cells.{cellsOf, moved, Kept};
+ghost use Rattle.join.specs.Pairs as spec;
+use crate::Side;
+use value::comparison::equal;
+
+// Makes the rows of all left rows, and answers how many there are: 257 if more than 256.
+pub fn join_rows(values: &mut [i64], labels: &mut [u32], left: Side, right: Side) -> usize
+    requires { ⌜ spec.Sides (length (now values)) (length (now labels)) left right ⌝ }
+    ensures { λ r. ⌜ spec.Grown 0 left right (spec.allRows (cellsOf (now (values .entry)) (now (labels .entry))) left right) (now (values .entry)) (now (labels .entry)) r (now (values .exit)) (now (labels .exit)) ⌝ }
+{
+    let rows = left.rows;
+    let mut made = 0;
+    let mut row = 0;
+    while row < rows {
+        made = join_row(values, labels, left, right, row, made);
+        if 256 < made {
+            return made;
+        }
+        row += 1;
+    }
+    made
+}
+
+// Makes the rows of one left row after the `made` rows before, and answers how many there are then: 257 if more than 256.
+fn join_row(
+    values: &mut [i64],
+    labels: &mut [u32],
+    left: Side,
+    right: Side,
+    row: usize,
+    made: usize,
+) -> usize
+    requires { ⌜ spec.Sides (length (now values)) (length (now labels)) left right ⌝ }
+    requires { ⌜ (row < left .rows) × (made ≤ 256) ⌝ }
+    ensures { λ r. ⌜ spec.Grown made left right (spec.leftRows (cellsOf (now (values .entry)) (now (labels .entry))) left right (left .at + row * left .columns)) (now (values .entry)) (now (labels .entry)) r (now (values .exit)) (now (labels .exit)) ⌝ }
+{
+    let at = left.at + row * left.columns;
+    let rows = right.rows;
+    let columns = right.columns;
+    let mut count = made;
+    let mut other = right.at;
+    let mut i = 0;
+    while i < rows {
+        count = join_pair(values, labels, left, right, at, other, count);
+        if 256 < count {
+            return count;
+        }
+        other += columns;
+        i += 1;
+    }
+    count
+}
+
+// Makes the row of the left row at `at` and the right row at `other`, if their keys match, after the `made` rows before, and answers
+// how many there are then: 257 if more than 256.
+fn join_pair(
+    values: &mut [i64],
+    labels: &mut [u32],
+    left: Side,
+    right: Side,
+    at: usize,
+    other: usize,
+    made: usize,
+) -> usize
+    requires { ⌜ spec.Sides (length (now values)) (length (now labels)) left right ⌝ }
+    requires { ⌜ (at + left .columns ≤ 6144) × (other + right .columns ≤ 6144) × (made ≤ 256) ⌝ }
+    ensures { λ r. ⌜ spec.Grown made left right (spec.pairRows (cellsOf (now (values .entry)) (now (labels .entry))) left right at other) (now (values .entry)) (now (labels .entry)) r (now (values .exit)) (now (labels .exit)) ⌝ }
+{
+    if !equal(values[at + left.key], values[other + right.key]) {
+        return made;
+    }
+    if made == 256 {
+        return 257;
+    }
+    let width = left.columns + (right.columns - 1);
+    write_row(values, labels, left, right, at, other, 6144 + made * width);
+    made + 1
+}
+
+// Writes the row of the left row at `at` and the right row at `other`: the left cells, then the right cells without the key.
+fn write_row(
+    values: &mut [i64],
+    labels: &mut [u32],
+    left: Side,
+    right: Side,
+    at: usize,
+    other: usize,
+    to: usize,
+)
+    requires { ⌜ spec.Sides (length (now values)) (length (now labels)) left right ⌝ }
+    requires { ⌜ (at + left .columns ≤ to) × (other + right .columns ≤ to) × (to + (left .columns + (right .columns - 1)) ≤ 8192) ⌝ }
+    ensures { λ r. ⌜ cellsOf (now (values .exit)) (now (labels .exit)) ≡ spec.written to (spec.rowMade (cellsOf (now (values .entry)) (now (labels .entry))) left right at other .cells) (cellsOf (now (values .entry)) (now (labels .entry))) ⌝ }
+    ensures { λ r. ⌜ Kept (now (values .entry)) (now (labels .entry)) (now (values .exit)) (now (labels .exit)) ⌝ }
+{
+    let key = right.key;
+    copy_up(values, labels, at, to, left.columns);
+    copy_up(values, labels, other, to + left.columns, key);
+    copy_up(
+        values,
+        labels,
+        other + key + 1,
+        to + left.columns + key,
+        right.columns - key - 1,
+    );
+}
+
+// Copies `count` cells to a place past them.
+fn copy_up(values: &mut [i64], labels: &mut [u32], from: usize, to: usize, count: usize)
+    requires { ⌜ (from + count ≤ to) × (to + count ≤ 8192) × (8192 ≤ length (now values)) × (8192 ≤ length (now labels)) ⌝ }
+    ensures { λ r. ⌜ cellsOf (now (values .exit)) (now (labels .exit)) ≡ moved from to count (cellsOf (now (values .entry)) (now (labels .entry))) ⌝ }
+    ensures { λ r. ⌜ Kept (now (values .entry)) (now (labels .entry)) (now (values .exit)) (now (labels .exit)) ⌝ }
+{
+    let mut i = 0;
+    while i < count {
+        values[to + i] = values[from + i];
+        labels[to + i] = labels[from + i];
+        i += 1;
+    }
+}

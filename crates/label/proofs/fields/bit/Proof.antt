@@ -1,0 +1,13 @@
+-- `label::fields::bit` meets its contract. Assumes nothing.
+use borrow.Author.Needs.{needs}
+use Rattle.label.proofs.fields.bit.Statement.{statement}
+use Rattle.label.proofs.fields.bit.Tie as tie
+
+field-requires : tie.Need-field-requires
+field-requires c κs = search needs
+
+returns : tie.Need-returns
+returns c = cc
+
+pub bit-spec : {M : Type 1} → statement M
+bit-spec = tie.close (tie.spec field-requires returns)

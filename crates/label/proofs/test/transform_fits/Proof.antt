@@ -1,0 +1,33 @@
+-- `label::test::transform_fits` meets its contract. Assumes nothing.
+use borrow.Author.Needs.{needs}
+use Rattle.label.proofs.test.transform_fits.Statement.{statement}
+use Rattle.label.proofs.test.transform_fits.Tie as tie
+
+bit-requires : tie.Need-bit-requires
+bit-requires c κs = search needs
+
+field-requires : tie.Need-field-requires
+field-requires c κs = search needs
+
+bit-requires-2 : tie.Need-bit-requires-2
+bit-requires-2 c κs = search needs
+
+field-requires-2 : tie.Need-field-requires-2
+field-requires-2 c κs = search needs
+
+digits-fit-requires : tie.Need-digits-fit-requires
+digits-fit-requires c κs = search needs
+
+returns : tie.Need-returns
+returns c = cc
+
+pub transform-fits-spec : {M : Type 1} → statement M
+transform-fits-spec =
+    tie.close
+    (tie.spec
+    bit-requires
+    field-requires
+    bit-requires-2
+    field-requires-2
+    digits-fit-requires
+    returns)

@@ -1,0 +1,12 @@
+-- `memory::live::no_tables` meets its contract. Assumes nothing.
+use mathlib.Core.Path.{refl}
+use Rattle.memory.specs.Stack.{noTables}
+use Rattle.memory.proofs.live.no_tables.Statement.{statement}
+use Rattle.memory.proofs.live.no_tables.Tie as tie
+
+returns : tie.Need-returns
+unfolding noTables
+returns c = refl
+
+pub no-tables-spec : {M : Type 1} → statement M
+no-tables-spec = tie.close (tie.spec returns)

@@ -1,0 +1,45 @@
+-- The two lent slices, values and labels, as one list of cells.
+use Prim.Native.Nat.{ℕ, zero, suc, _+_, _-_}
+use mathlib.Core.Path.{_≡_}
+use mathlib.Core.Bool.{Bool, _&&_}
+use mathlib.Core.List.{List, [], _∷_, _++_}
+use lib.Dec.{leb}
+use lib.IntN.{ℤ}
+use lib.ListN.{length, take, drop}
+use Rattle.plan.specs.Table.{Cell, Row}
+
+-- as long as the shorter of the two
+abbrev pub cellsOf : List ℤ → List ℕ → List Cell
+cellsOf [] labels = []
+cellsOf (value ∷ values) [] = []
+cellsOf (value ∷ values) (label ∷ labels) = record { value = value; label = label } ∷ cellsOf values labels
+
+-- the cells of rows, one row after the other
+abbrev pub flat : List Row → List Cell
+flat [] = []
+flat (row ∷ rest) = row .cells ++ flat rest
+
+-- the labels of a table's cells, row by row
+abbrev pub gridOf : ℕ → ℕ → List ℕ → List (List ℕ)
+gridOf columns zero labels = []
+gridOf columns (suc rows) labels = take columns labels ∷ gridOf columns rows (drop columns labels)
+
+-- `count` elements from a place on, copied to a place before it
+abbrev pub moved : {A : Type 0} → ℕ → ℕ → ℕ → List A → List A
+moved from to count list = take to list ++ (take count (drop from list) ++ drop (to + count) list)
+
+-- a part of a list is within it
+abbrev pub within : ℕ → ℕ → ℕ → Bool
+within from count length = leb from length && leb count (length - from)
+
+-- a move within both slices, to a place not after
+abbrev pub movesWithin : List ℤ → List ℕ → ℕ → ℕ → ℕ → Bool
+movesWithin values labels from to count = leb to from && within from count (length values) && within from count (length labels)
+
+-- What a step leaves of the slices whatever it answers: their lengths, and everything past the first 8,192 elements. The elements before
+-- those that no live table uses are free: a step may leave anything there.
+pub record Kept (values : List ℤ) (labels : List ℕ) (values′ : List ℤ) (labels′ : List ℕ) : Type 0 where
+  pub as-many-values : length values′ ≡ length values
+  pub as-many-labels : length labels′ ≡ length labels
+  pub values-past : drop 8192 values′ ≡ drop 8192 values
+  pub labels-past : drop 8192 labels′ ≡ drop 8192 labels

@@ -1,0 +1,155 @@
+-- What a plan locks stays locked: composition and the plan's own discharges never unlock a cell. Assumes nothing.
+use Prim.Native.Nat.{ℕ, _<_}
+use mathlib.Core.Path.{_≡_, refl, sym, ap, _∙_}
+use mathlib.Core.Bool.{Bool, true, false, cond, not, _&&_, _||_}
+use mathlib.Core.List.{List, [], _∷_}
+use lib.Dec.{lit<}
+use Rattle.label.specs.Composition.{composed}
+use Rattle.label.specs.Discharge.{allowsTransform, allowsAggregate, dischargesA, withoutT, withoutA, forbidsA, afterT, afterA}
+use Rattle.label.specs.Word.{fieldAt, hasH, hasT, hasA, hasN}
+use Rattle.plan.specs.Locked.{appliesAt, groupsAt, anyStep, locked}
+use Rattle.plan.specs.Numbers.{transformCode, digitsOf, aggregateCode}
+use Rattle.plan.specs.declared.Aggregate.{Aggregate}
+use Rattle.plan.specs.declared.Aggregate.the-variants.{Count, Sum, Min, Max, Avg}
+use Rattle.plan.specs.declared.Step.{Step}
+use Rattle.plan.specs.declared.Step.the-variants.{Scan, Union, Join, Filter, Keep, Apply, Group}
+use Rattle.plan.specs.declared.Transform.{Transform}
+use Rattle.plan.specs.declared.Transform.the-variants.{Add, Sub, Cut, Band}
+use Rattle.label.proofs.Laws.{compose-comm, keeps-H, keeps-T, keeps-A, keeps-N, allows-transform, allows-aggregate, lowered-T, lowered-A, same-aggregates, after-T, after-A, forbids-A}
+use Rattle.plan.proofs.Bools.{or-false, and-true, clash, or-mono}
+
+pub transform-code-lt : (transform : Transform) → transformCode transform < 4
+transform-code-lt (Add operand) = lit< tt
+transform-code-lt (Sub operand) = lit< tt
+transform-code-lt (Cut digits) = lit< tt
+transform-code-lt (Band width) = lit< tt
+
+pub aggregate-code-lt : (aggregate : Aggregate) → aggregateCode aggregate < 5
+aggregate-code-lt Count = lit< tt
+aggregate-code-lt Sum = lit< tt
+aggregate-code-lt Min = lit< tt
+aggregate-code-lt Max = lit< tt
+aggregate-code-lt Avg = lit< tt
+
+-- a label that a plan does not lock, part by part
+pub record Open (plan : List Step) (label : ℕ) : Type 0 where
+  pub H : hasH label ≡ false
+  pub T : hasT label ≡ true → anyStep (appliesAt label) plan ≡ true
+  pub A : hasA label ≡ true → anyStep (groupsAt label) plan ≡ true
+  pub N : hasN label ≡ false
+
+and-not : (a b : Bool) → (a && not b) ≡ false → a ≡ true → b ≡ true
+and-not true true e t = refl
+and-not true false e t = sym e
+and-not false b e t = absurd (clash t refl)
+
+-- a stage that what is made of it lacks was not there
+absent : (a b : Bool) → (a ≡ true → b ≡ true) → b ≡ false → a ≡ false
+absent true b f e = absurd (clash (f refl) e)
+absent false b f e = refl
+
+not-and : (a b : Bool) → (a ≡ true → b ≡ true) → (a && not b) ≡ false
+not-and true b f = ap not (f refl)
+not-and false b f = refl
+
+module _ (plan : List Step) (label : ℕ) where
+  pub unlocked : locked plan label ≡ false → Open plan label
+  unfolding locked
+  unlocked e =
+      let n = or-false (hasH label || (hasT label && not (anyStep (appliesAt label) plan)) || (hasA label && not (anyStep (groupsAt label) plan))) (hasN label) e in
+      let a = or-false (hasH label || (hasT label && not (anyStep (appliesAt label) plan))) (hasA label && not (anyStep (groupsAt label) plan)) (n .0) in
+      let t = or-false (hasH label) (hasT label && not (anyStep (appliesAt label) plan)) (a .0) in
+      record { H = t .0; T = and-not (hasT label) _ (t .1); A = and-not (hasA label) _ (a .1); N = n .1 }
+
+  pub not-locked : Open plan label → locked plan label ≡ false
+  unfolding locked
+  not-locked o =
+      rw (o .H, not-and (hasT label) (anyStep (appliesAt label) plan) (o .T), not-and (hasA label) (anyStep (groupsAt label) plan) (o .A), o .N)
+
+-- a clear cell is not locked
+pub clear-open : (plan : List Step) → locked plan 0 ≡ false
+unfolding locked fieldAt
+clear-open plan = refl
+
+any-mono : (f g : Step → Bool) → ((step : Step) → f step ≡ true → g step ≡ true) → (plan : List Step) → anyStep f plan ≡ true → anyStep g plan ≡ true
+any-mono f g h [] e = e
+any-mono f g h (step ∷ rest) e = or-mono (f step) (anyStep f rest) (g step) (anyStep g rest) (h step) (any-mono f g h rest) e
+
+-- a label that allows no more than another unlocks no more steps
+applies-mono : (l m : ℕ) → ((operation digits : ℕ) → operation < 4 → allowsTransform l operation digits ≡ true → allowsTransform m operation digits ≡ true)
+    → (step : Step) → appliesAt l step ≡ true → appliesAt m step ≡ true
+applies-mono l m h (Scan table) e = e
+applies-mono l m h Union e = e
+applies-mono l m h (Join left right) e = e
+applies-mono l m h (Filter column comparison operand) e = e
+applies-mono l m h (Keep mask) e = e
+applies-mono l m h (Apply column transform) e = h (transformCode transform) (digitsOf transform) (transform-code-lt transform) e
+applies-mono l m h (Group keys aggregate column) e = e
+
+groups-mono : (l m : ℕ) → ((operation : ℕ) → operation < 5 → allowsAggregate l operation ≡ true → allowsAggregate m operation ≡ true)
+    → (step : Step) → groupsAt l step ≡ true → groupsAt m step ≡ true
+groups-mono l m h (Scan table) e = e
+groups-mono l m h Union e = e
+groups-mono l m h (Join left right) e = e
+groups-mono l m h (Filter column comparison operand) e = e
+groups-mono l m h (Keep mask) e = e
+groups-mono l m h (Apply column transform) e = e
+groups-mono l m h (Group keys aggregate column) e = h (aggregateCode aggregate) (aggregate-code-lt aggregate) e
+
+module _ (plan : List Step) where
+  -- what is composed is locked if the left label is, and if the right one is
+  pub composed-left : (a b : ℕ) → locked plan (composed a b) ≡ false → locked plan a ≡ false
+  composed-left a b e =
+      let o = unlocked plan (composed a b) e in
+      not-locked plan a record {
+        H = absent (hasH a) (hasH (composed a b)) (keeps-H a b) (o .H);
+        T = λ t. any-mono (appliesAt (composed a b)) (appliesAt a) (applies-mono (composed a b) a (λ o d h. allows-transform a b o d h t)) plan (o .T (keeps-T a b t));
+        A = λ t. any-mono (groupsAt (composed a b)) (groupsAt a) (groups-mono (composed a b) a (λ o h. allows-aggregate a b o h t)) plan (o .A (keeps-A a b t));
+        N = absent (hasN a) (hasN (composed a b)) (keeps-N a b) (o .N);
+      }
+
+  pub composed-right : (a b : ℕ) → locked plan (composed a b) ≡ false → locked plan b ≡ false
+  composed-right a b e = composed-left b a (ap (locked plan) (compose-comm b a) ∙ e)
+
+  -- the plan's own operations leave a locked label locked
+  pub transform-locked : (transform : Transform) (label : ℕ)
+      → (allowsTransform label (transformCode transform) (digitsOf transform) ≡ true → anyStep (appliesAt label) plan ≡ true)
+      → locked plan (afterT label (transformCode transform) (digitsOf transform)) ≡ false → locked plan label ≡ false
+  transform-locked transform label used e =
+      go (not (hasH label) && hasT label && allowsTransform label (transformCode transform) (digitsOf transform)) refl
+      (rw (after-T label (transformCode transform) (digitsOf transform)) at e)
+    where
+      go : (b : Bool) → (not (hasH label) && hasT label && allowsTransform label (transformCode transform) (digitsOf transform)) ≡ b
+          → locked plan (cond b (withoutT label) label) ≡ false → locked plan label ≡ false
+      go true t e =
+          let o = unlocked plan (withoutT label) e in
+          let l = lowered-T label in
+          not-locked plan label record {
+            H = sym (l .H) ∙ o .H;
+            T = λ _. used (and-true (not (hasH label) && hasT label) _ t .1);
+            A = λ a. any-mono (groupsAt (withoutT label)) (groupsAt label) (groups-mono (withoutT label) label (λ o h g. sym (same-aggregates label o h) ∙ g)) plan (o .A (l .A ∙ a));
+            N = sym (l .N) ∙ o .N;
+          }
+      go false t e = e
+
+  pub aggregate-locked : (aggregate : Aggregate) (label rows : ℕ)
+      → (allowsAggregate label (aggregateCode aggregate) ≡ true → anyStep (groupsAt label) plan ≡ true)
+      → forbidsA label ≡ false → locked plan (afterA label (aggregateCode aggregate) rows) ≡ false → locked plan label ≡ false
+  aggregate-locked aggregate label rows used free e =
+      go (not (hasH label || hasT label) && hasA label && dischargesA label (aggregateCode aggregate) rows) refl
+      (rw (after-A label (aggregateCode aggregate) rows) at e)
+    where
+      go : (b : Bool) → (not (hasH label || hasT label) && hasA label && dischargesA label (aggregateCode aggregate) rows) ≡ b
+          → locked plan (cond b (withoutA label) label) ≡ false → locked plan label ≡ false
+      go true t e =
+          let o = unlocked plan (withoutA label) e in
+          let l = lowered-A label in
+          let below = or-false (hasH label) (hasT label) (sym (forbids-A label) ∙ free) in
+          let allowed = and-true (not (hasH label || hasT label) && hasA label) _ t .1 in
+          not-locked plan label record {
+            H = below .0;
+            T = λ h. absurd (clash h (below .1));
+            A = λ _. used (and-true (allowsAggregate label (aggregateCode aggregate)) _ allowed .0);
+            N = sym (l .N) ∙ o .N;
+          }
+      go false t e = e

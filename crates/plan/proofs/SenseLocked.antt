@@ -1,0 +1,50 @@
+-- What `locked` says, and that APPLY leaves the row that it reads. Assumes nothing.
+use Prim.Native.Nat.{ℕ}
+use mathlib.Core.Path.{_≡_, refl}
+use mathlib.Core.Bool.{Bool, true, false, _||_, false≢true}
+use mathlib.Core.List.{List, [], _∷_}
+use lib.Seq.{take-append-seam}
+use Rattle.plan.specs.Locked.{appliesAt, groupsAt, anyStep}
+use Rattle.plan.specs.Sense.{ApplyKeeps, SomeApply, SomeGroup, UnlockedMeans}
+use Rattle.plan.specs.declared.Step.{Step}
+use Rattle.plan.specs.declared.Step.the-variants.{Scan, Union, Join, Filter, Keep, Apply, Group}
+use Rattle.plan.proofs.LockedLaws.{unlocked}
+
+-- the first of two tests, or the second
+either-true : {A : Type 0} (a b : Bool) → (a ≡ true → A) → (b ≡ true → A) → (a || b) ≡ true → A
+either-true true b f g e = f refl
+either-true false b f g e = g e
+
+some-apply : (label : ℕ) (plan : List Step) → anyStep (appliesAt label) plan ≡ true → SomeApply label plan
+some-apply label [] e = absurd (false≢true e)
+some-apply label (step ∷ rest) e = either-true (appliesAt label step) (anyStep (appliesAt label) rest) (here step) (λ f. SomeApply.later (some-apply label rest f)) e
+  where
+    here : (step : Step) → appliesAt label step ≡ true → SomeApply label (step ∷ rest)
+    here (Scan table) f = absurd (false≢true f)
+    here Union f = absurd (false≢true f)
+    here (Join left right) f = absurd (false≢true f)
+    here (Filter column comparison operand) f = absurd (false≢true f)
+    here (Keep mask) f = absurd (false≢true f)
+    here (Apply column transform) f = SomeApply.applies f
+    here (Group keys aggregate column) f = absurd (false≢true f)
+
+some-group : (label : ℕ) (plan : List Step) → anyStep (groupsAt label) plan ≡ true → SomeGroup label plan
+some-group label [] e = absurd (false≢true e)
+some-group label (step ∷ rest) e = either-true (groupsAt label step) (anyStep (groupsAt label) rest) (here step) (λ f. SomeGroup.later (some-group label rest f)) e
+  where
+    here : (step : Step) → groupsAt label step ≡ true → SomeGroup label (step ∷ rest)
+    here (Scan table) f = absurd (false≢true f)
+    here Union f = absurd (false≢true f)
+    here (Join left right) f = absurd (false≢true f)
+    here (Filter column comparison operand) f = absurd (false≢true f)
+    here (Keep mask) f = absurd (false≢true f)
+    here (Apply column transform) f = absurd (false≢true f)
+    here (Group keys aggregate column) f = SomeGroup.groups f
+
+pub unlocked-means : UnlockedMeans
+unlocked-means plan label e =
+    let o = unlocked plan label e in
+    (o .H, o .N, λ t. some-apply label plan (o .T t), λ a. some-group label plan (o .A a))
+
+pub apply-keeps : ApplyKeeps
+apply-keeps column transform row = take-append-seam (row .cells) _

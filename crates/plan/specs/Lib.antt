@@ -1,0 +1,20 @@
+-- The meaning of a plan. These files are what a reader must believe.
+pub mod Table
+pub mod Verdict
+pub mod Numbers
+pub mod Scan
+pub mod Union
+pub mod Join
+pub mod Operands
+pub mod Filter
+pub mod Keep
+pub mod Apply
+pub mod Group
+pub mod Steps
+pub mod Widths
+pub mod Trace
+pub mod Evaluate
+pub mod Locked
+pub mod Secrecy
+pub mod Sense
+pub mod Examples

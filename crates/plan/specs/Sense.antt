@@ -1,0 +1,101 @@
+-- What the definitions should give if they say what is meant. Each of these is proved.
+use Prim.Native.Nat.{ℕ, _+_, _≤_, _<_}
+use mathlib.Core.Path.{_≡_}
+use mathlib.Core.Bool.{Bool, true, false}
+use mathlib.Core.List.{List, [], _∷_, map}
+use lib.ListN.{length, take}
+use Rattle.label.specs.Discharge.{allowsTransform, allowsAggregate}
+use Rattle.label.specs.Stages.{one}
+use Rattle.label.specs.Word.{hasH, hasT, hasA, hasN}
+use Rattle.plan.specs.Apply.{appliedRow}
+use Rattle.plan.specs.Evaluate.{release, refuse, evaluate}
+use Rattle.plan.specs.Filter.{passing}
+use Rattle.plan.specs.Group.{groupsAfter}
+use Rattle.plan.specs.Locked.{locked}
+use Rattle.plan.specs.Numbers.{transformCode, digitsOf, aggregateCode}
+use Rattle.plan.specs.Steps.{make, tooMany}
+use Rattle.plan.specs.Table.{Row, Table}
+use Rattle.plan.specs.Verdict.{fine}
+use Rattle.plan.specs.Widths.{columnsExist, madeColumns}
+use Rattle.plan.specs.declared.Aggregate.{Aggregate}
+use Rattle.plan.specs.declared.Step.{Step}
+use Rattle.plan.specs.declared.Step.the-variants.{Apply, Group}
+use Rattle.plan.specs.declared.Transform.{Transform}
+use Rattle.value.specs.Range.{inRange}
+
+-- a fact of each element
+abbrev pub Each : {A : Type 0} → (A → Type 0) → List A → Type 0
+Each P [] = Unit
+Each P (x ∷ xs) = P x × Each P xs
+
+-- every cell of a released table is clear and in range
+abbrev pub ReleasedClear : Type 0
+ReleasedClear = (plan : List Step) (tables : List Table) (table : Table) → evaluate plan tables .outcome ≡ release table
+    → Each (λ row. Each (λ cell. (cell .label ≡ 0) × (inRange (cell .value) ≡ true)) (row .cells)) (table .rows)
+
+-- the evaluation refuses with no number but 31 to 36
+abbrev pub RefusalNumbers : Type 0
+RefusalNumbers = (plan : List Step) (tables : List Table) (number step row column : ℕ) → evaluate plan tables .outcome ≡ refuse number step row column
+    → (31 ≤ number) × (number ≤ 36)
+
+-- every row has the table's width
+abbrev pub Shaped : Table → Type 0
+Shaped table = Each (λ row. length (row .cells) ≡ table .columns) (table .rows)
+
+-- a step that finds its columns makes a table of such rows, with the columns that the plan's check counts
+abbrev pub MadeShaped : Type 0
+MadeShaped = (step : Step) (tables stack : List Table)
+    → columnsExist step (map (λ table. table .columns) tables) (map (λ table. table .columns) stack) ≡ true → Each Shaped tables → Each Shaped stack
+    → Shaped (make step tables stack)
+    × (make step tables stack .columns ≡ madeColumns step (map (λ table. table .columns) tables) (map (λ table. table .columns) stack))
+
+-- and at most 256 rows, after 34
+abbrev pub Small : Table → Type 0
+Small table = length (table .rows) ≤ 256
+
+abbrev pub MadeSmall : Type 0
+MadeSmall = (step : Step) (tables stack : List Table) → Each Small tables → Each Small stack → tooMany step (make step tables stack) ≡ fine
+    → Small (make step tables stack)
+
+-- FILTER keeps the order and only drops rows
+pub data Dropped {A : Type 0} : List A → List A → Type 0 where
+  end : Dropped [] []
+  drops : {x : A} {xs ys : List A} → Dropped xs ys → Dropped xs (x ∷ ys)
+  keeps : {x : A} {xs ys : List A} → Dropped xs ys → Dropped (x ∷ xs) (x ∷ ys)
+
+abbrev pub FilterDrops : Type 0
+FilterDrops = (pass : Row → Bool) (rows : List Row) → Dropped (passing pass rows) rows
+
+-- how many rows pass a test
+abbrev pub count : (Row → Bool) → List Row → ℕ
+count test [] = 0
+count test (row ∷ rest) = one (test row) + count test rest
+
+abbrev pub countAll : (Row → Bool) → List (List Row) → ℕ
+countAll test [] = 0
+countAll test (group ∷ rest) = count test group + countAll test rest
+
+-- each group has a row, and the groups' rows are exactly the rows read: as many in the groups as in the table pass any test
+abbrev pub GroupsPartition : Type 0
+GroupsPartition = (keys columns : ℕ) (rows : List Row) → Each (λ group. 0 < length group) (groupsAfter keys columns [] rows)
+    × ((test : Row → Bool) → countAll test (groupsAfter keys columns [] rows) ≡ count test rows)
+
+-- APPLY leaves the cells that it reads as they are: a row made begins with the row read
+abbrev pub ApplyKeeps : Type 0
+ApplyKeeps = (column : ℕ) (transform : Transform) (row : Row) → take (length (row .cells)) (appliedRow column transform row .cells) ≡ row .cells
+
+-- "no APPLY has an allowed operation (cut: enough digits)" and "no GROUP has an allowed aggregate", denied
+pub data SomeApply (label : ℕ) : List Step → Type 0 where
+  applies : {column : ℕ} {transform : Transform} {rest : List Step} → allowsTransform label (transformCode transform) (digitsOf transform) ≡ true
+      → SomeApply label (Apply column transform ∷ rest)
+  later : {step : Step} {rest : List Step} → SomeApply label rest → SomeApply label (step ∷ rest)
+
+pub data SomeGroup (label : ℕ) : List Step → Type 0 where
+  groups : {keys column : ℕ} {aggregate : Aggregate} {rest : List Step} → allowsAggregate label (aggregateCode aggregate) ≡ true
+      → SomeGroup label (Group keys aggregate column ∷ rest)
+  later : {step : Step} {rest : List Step} → SomeGroup label rest → SomeGroup label (step ∷ rest)
+
+-- a label that is not locked has neither H nor N, has T only where the plan can discharge it, and A likewise
+abbrev pub UnlockedMeans : Type 0
+UnlockedMeans = (plan : List Step) (label : ℕ) → locked plan label ≡ false
+    → (hasH label ≡ false) × (hasN label ≡ false) × (hasT label ≡ true → SomeApply label plan) × (hasA label ≡ true → SomeGroup label plan)

@@ -1,0 +1,54 @@
+-- Cells, rows, tables and the stack. Order is part of each of them.
+use Prim.Native.Nat.{ℕ, zero, suc}
+use mathlib.Core.Bool.{Bool}
+use mathlib.Core.List.{List, [], _∷_, map}
+use lib.Dec.{eqb}
+use lib.IntN.{ℤ}
+use lib.ListN.{getD, take, drop}
+use Rattle.value.specs.Range.{OVER}
+
+-- a value and its label
+pub record Cell : Type 0 where
+  pub value : ℤ
+  pub label : ℕ
+
+pub record Row : Type 0 where
+  pub cells : List Cell
+
+-- a table of no rows still has its columns
+pub record Table : Type 0 where
+  pub columns : ℕ
+  pub rows : List Row
+
+-- "Zero means clear."
+abbrev pub clear : ℕ → Bool
+clear label = eqb label 0
+
+-- a table's cells, row by row, as rows of so many columns
+abbrev pub rowsOf : ℕ → ℕ → List Cell → List Row
+rowsOf columns zero cells = []
+rowsOf columns (suc rows) cells = record { cells = take columns cells } ∷ rowsOf columns rows (drop columns cells)
+
+-- where nothing stands: no accepted plan reads one
+abbrev pub blank : Cell
+blank = record { value = OVER; label = 0 }
+
+abbrev pub noTable : Table
+noTable = record { columns = 0; rows = [] }
+
+abbrev pub cellAt : ℕ → Row → Cell
+cellAt column row = getD (row .cells) column blank
+
+-- The stack, the last pushed first. The left table of two was pushed earlier.
+abbrev pub top : List Table → Table
+top stack = getD stack 0 noTable
+
+abbrev pub second : List Table → Table
+second stack = getD stack 1 noTable
+
+-- The labels of a table, row by row. What a step refuses is a function of these alone, and of no value.
+abbrev pub labelsOf : Row → List ℕ
+labelsOf row = map (λ cell. cell .label) (row .cells)
+
+abbrev pub grid : Table → List (List ℕ)
+grid table = map labelsOf (table .rows)

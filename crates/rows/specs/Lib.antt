@@ -1,0 +1,3 @@
+-- What the private functions of the steps promise of the cells.
+pub mod Filtering
+pub mod Keeping

@@ -1,0 +1,2 @@
+-- SCAN over work memory.
+pub mod Scanning

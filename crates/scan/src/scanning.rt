@@ -1,0 +1,78 @@
+// SCAN: a table of the container, pushed.
+ghost use mathlib.Core.Path.{_≡_};
+ghost use mathlib.Core.Bool.{true};
+ghost use Prim.Native.Nat.{_+_, _^_, _<_};
+ghost use lib.ListN.{length};
+ghost use Rattle.plan.specs.declared.Step.the-variants.{Scan};
+ghost use Rattle.container.specs.Contents.{tablesOf};
+ghost use Rattle.memory.specs.Steps.{DoneWhere};
+ghost use Rattle.scan.specs.Scanning as spec;
+use container::Reading;
+use memory::Answer;
+use memory::Stack;
+use memory::Stepped;
+
+// Pushes a table of the container.
+pub fn scan(
+    container: &[u8],
+    values: &mut [i64],
+    labels: &mut [u32],
+    stack: Stack,
+    table: usize,
+) -> Stepped
+    ensures { λ r. ⌜ DoneWhere (spec.scanFits (now (container .entry)) table (length (now (values .entry))) (length (now (labels .entry))) stack) (Scan table) (tablesOf (now (container .entry))) (now (values .entry)) (now (labels .entry)) stack r (now (values .exit)) (now (labels .exit)) ⌝ }
+{
+    if !scan_fits(container, values.len(), labels.len(), stack, table) {
+        return Stepped {
+            answer: Answer::DoesNotFit,
+            stack: stack,
+        };
+    }
+    let slot = stack.depth;
+    let part = container::part(container, table + 1);
+    match container::read_cells(part, values, labels, 2048 * slot) {
+        Reading::Cells(shape) => Stepped {
+            answer: Answer::Made,
+            stack: memory::with_table(stack, slot, shape.columns, shape.rows),
+        },
+        Reading::DoesNotFit => Stepped {
+            answer: Answer::DoesNotFit,
+            stack: stack,
+        },
+    }
+}
+
+// Whether the slices and the stack fit, and the container has the table, with cells that fit a slot.
+fn scan_fits(container: &[u8], values: usize, labels: usize, stack: Stack, table: usize) -> bool
+    ensures { λ r. ⌜ r ≡ spec.scanFits (now (container .entry)) table values labels stack ⌝ }
+    ensures { λ r. ⌜ (r ≡ true → table + 1 < 2 ^ 64) ⌝ }
+{
+    if !memory::ready(values, labels, stack) {
+        return false;
+    }
+    if 3 <= stack.depth {
+        return false;
+    }
+    let parts = container::part_count(container);
+    if parts <= table {
+        return false;
+    }
+    if parts - table < 2 {
+        return false;
+    }
+    cells_fit(container::part(container, table + 1))
+}
+
+// Whether a table part has at most 256 rows and 8 columns, and the bytes of all its cells.
+fn cells_fit(part: &[u8]) -> bool
+    ensures { λ r. ⌜ r ≡ spec.cellsFit (now (part .entry)) ⌝ }
+{
+    let shape = container::shape_of(part);
+    if 8 < shape.columns {
+        return false;
+    }
+    if 256 < shape.rows {
+        return false;
+    }
+    4 + 12 * (shape.rows * shape.columns) <= part.len()
+}

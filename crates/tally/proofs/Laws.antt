@@ -1,0 +1,118 @@
+-- The definitions of this crate, said of tables in memory and of lists of trace lines. Assumes nothing.
+use Prim.Native.Nat.{ℕ, zero, suc, _+_, _-_, _*_, _≤_}
+use mathlib.Core.Path.{_≡_, refl, sym, ap, ap₂, _∙_}
+use mathlib.Core.Bool.{Bool, true, cond, not}
+use mathlib.Core.List.{List, [], _∷_, _++_, map, append-assoc}
+use native.Mathlib.Nat.{zero-mul, le-of-suc-le-suc, not-suc-le-zero}
+use native.Mathlib.Omega.{arith}
+use lib.IntN.{ℤ}
+use lib.ListN.{length, take, drop, replicate, length-append, length-drop}
+use lib.Seq.{take-add, take-at, drop-at, drop-drop}
+use borrow.Author.Tests.{le-leb}
+use Rattle.memory.specs.Cells.{cellsOf, flat}
+use Rattle.memory.specs.Search.{tableWithin}
+use Rattle.memory.specs.Stack.{tableAt}
+use Rattle.plan.specs.Evaluate.{overIn, firstOver}
+use Rattle.plan.specs.Table.{Cell, grid, rowsOf}
+use Rattle.plan.specs.Trace.{Line, stagesLeft}
+use Rattle.plan.specs.Verdict.{orElse, refuseIf}
+use Rattle.tally.specs.Lines.{numbersOf, flatLines, lineFits, withLine}
+use Rattle.tally.specs.Over.{overFrom, firstOverIn}
+use Rattle.tally.specs.Stages.{stagesAt}
+use Rattle.tally.specs.Zeros.{filled}
+use Rattle.value.specs.Range.{inRange}
+use Rattle.memory.proofs.CellLaws.{cells-drop, le-within}
+use Rattle.memory.proofs.Rows.{grid-rows}
+
+-- ---- cells and their values
+
+values-take : (n : ℕ) (vs : List ℤ) (ls : List ℕ) → n ≤ length ls → map (λ cell. cell .value) (take n (cellsOf vs ls)) ≡ take n vs
+values-take zero vs ls h = refl
+values-take (suc n) [] ls h = refl
+values-take (suc n) (v ∷ vs) [] h = absurd (not-suc-le-zero h)
+values-take (suc n) (v ∷ vs) (l ∷ ls) h = ap (λ (rest : List ℤ). v ∷ rest) (values-take n vs ls (le-of-suc-le-suc h))
+
+over-cells : (row column : ℕ) (cells : List Cell) → overIn row column cells ≡ overFrom row column (map (λ cell. cell .value) cells)
+over-cells row column [] = refl
+over-cells row column (cell ∷ rest) = ap (orElse (refuseIf (not (inRange (cell .value))) 36 row column)) (over-cells row (suc column) rest)
+
+over-rows : (first columns rows : ℕ) (vs : List ℤ) (ls : List ℕ) → rows * columns ≤ length ls
+    → firstOver first (rowsOf columns rows (cellsOf vs ls)) ≡ firstOverIn first columns rows vs
+over-rows first columns zero vs ls h = refl
+over-rows first columns (suc rows) vs ls h =
+    ap₂ orElse (over-cells first 0 (take columns (cellsOf vs ls)) ∙ ap (overFrom first 0) (values-take columns vs ls (omega arith)))
+    (ap (λ (l : List Cell). firstOver (suc first) (rowsOf columns rows l)) (sym (cells-drop columns vs ls))
+    ∙ over-rows (suc first) columns rows (drop columns vs) (drop columns ls) (simp length-drop (omega arith)))
+
+flat-rows : (columns rows : ℕ) (cells : List Cell) → flat (rowsOf columns rows cells) ≡ take (rows * columns) cells
+flat-rows columns zero cells = rw zero-mul
+flat-rows columns (suc rows) cells =
+    let e : columns + rows * columns ≡ suc rows * columns = omega arith in
+    ap (λ (rest : List Cell). take columns cells ++ rest) (flat-rows columns rows (drop columns cells)) ∙ sym (take-add columns (rows * columns) cells)
+    ∙ ap (λ (n : ℕ). take n cells) e
+
+-- ---- a table in memory
+
+pub table-fits : (at rows columns n : ℕ) → rows ≤ 256 → columns ≤ 8 → at + rows * columns ≤ n → tableWithin at rows columns n ≡ true
+table-fits at rows columns n r c h = rw (le-leb rows 256 r, le-leb columns 8 c, le-within at (rows * columns) n h)
+
+module _ (values : List ℤ) (labels : List ℕ) (at columns rows : ℕ) where
+  -- the stages left on it
+  pub table-stages : tableWithin at rows columns (length labels) ≡ true → at + rows * columns ≤ length values
+      → stagesLeft (grid (tableAt (cellsOf values labels) at columns rows)) ≡ stagesAt labels at rows columns
+  table-stages e h =
+      rw (e, ← cells-drop at values labels) (ap stagesLeft (grid-rows columns rows (drop at values) (drop at labels) (simp length-drop (omega arith))))
+
+  -- its first OVER cell
+  pub table-over : (first : ℕ) → at + rows * columns ≤ length labels
+      → firstOver first (rowsOf columns rows (drop at (cellsOf values labels))) ≡ firstOverIn first columns rows (drop at values)
+  table-over first h = rw (← cells-drop at values labels) (over-rows first columns rows (drop at values) (drop at labels) (simp length-drop (omega arith)))
+
+  -- its values, row by row
+  pub table-values : at + rows * columns ≤ length labels
+      → map (λ cell. cell .value) (flat (tableAt (cellsOf values labels) at columns rows .rows)) ≡ take (rows * columns) (drop at values)
+  table-values h =
+      rw (flat-rows columns rows (drop at (cellsOf values labels)), ← cells-drop at values labels)
+      (values-take (rows * columns) (drop at values) (drop at labels) (simp length-drop (omega arith)))
+
+-- ---- trace lines
+
+pub lines-length : (lines : List Line) → length (flatLines lines) ≡ 4 * length lines
+lines-length [] = refl
+lines-length (line ∷ rest) = omega (arith, lines-length rest)
+
+pub lines-append : (lines others : List Line) → flatLines (lines ++ others) ≡ flatLines lines ++ flatLines others
+lines-append [] others = refl
+lines-append (line ∷ rest) others = ap (λ (l : List ℕ). numbersOf line ++ l) (lines-append rest others)
+
+-- a trace that begins with so many lines, over what stood there before
+module _ (lines : List Line) (trace before : List ℕ) (e : trace ≡ flatLines lines ++ drop (4 * length lines) before) where
+  -- it has room for one more line where there was room before
+  pub line-fits : 4 * (length lines + 1) ≤ length before → lineFits (length lines) trace ≡ true
+  line-fits h =
+      let whole : length trace ≡ 4 * length lines + (length before - 4 * length lines)
+      = ap length e ∙ length-append (flatLines lines) (drop (4 * length lines) before) ∙ ap₂ _+_ (lines-length lines) (length-drop (4 * length lines) before) in
+      le-leb (4 * length lines + 4) (length trace) (omega arith)
+
+  -- the next line stands behind them
+  pub line-behind : (next : Line) → withLine (length lines) next trace ≡ flatLines (lines ++ (next ∷ [])) ++ drop (4 * (length lines + 1)) before
+  line-behind next =
+      let k = 4 * length lines in
+      let begins : take k trace ≡ flatLines lines = ap (take k) e ∙ take-at (flatLines lines) (drop k before) k (lines-length lines) in
+      let ends : drop k trace ≡ drop k before = ap (drop k) e ∙ drop-at (flatLines lines) (drop k before) k (lines-length lines) in
+      let past : drop (k + 4) trace ≡ drop (k + 4) before = sym (drop-drop 4 k trace) ∙ ap (drop 4) ends ∙ drop-drop 4 k before in
+      let sum : k + 4 ≡ 4 * (length lines + 1) = omega arith in
+      ap₂ (λ (l r : List ℕ). l ++ (numbersOf next ++ r)) begins (past ∙ ap (λ (n : ℕ). drop n before) sum)
+      ∙ sym (append-assoc (flatLines lines) (numbersOf next) _) ∙ ap (λ (l : List ℕ). l ++ drop (4 * (length lines + 1)) before) (sym (lines-append lines (next ∷ [])))
+
+  -- so after `write_line`
+  pub line-written : (next : Line) {answer : Bool} {after : List ℕ} → 4 * (length lines + 1) ≤ length before → answer ≡ lineFits (length lines) trace
+      → after ≡ cond answer (withLine (length lines) next trace) trace
+      → (answer ≡ true) × (after ≡ flatLines (lines ++ (next ∷ [])) ++ drop (4 * (length lines + 1)) before)
+  line-written next room a w = let t = a ∙ line-fits room in (t, w ∙ rw t (line-behind next))
+
+-- ---- zeros
+
+pub filled-is : {A : Type 0} (count : ℕ) (element : A) (list : List A) → filled count element list ≡ replicate count element ++ drop count list
+unfolding filled
+filled-is count element list = refl

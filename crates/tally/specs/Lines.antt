@@ -1,0 +1,26 @@
+-- "Trace: four 32-bit numbers per finished step: kind, rows, columns, and stages left", from the start of the trace.
+use Prim.Native.Nat.{ℕ, _+_, _*_}
+use mathlib.Core.Bool.{Bool}
+use mathlib.Core.List.{List, [], _∷_, _++_}
+use lib.Dec.{leb}
+use lib.ListN.{length, take, drop}
+use Rattle.plan.specs.Trace.{Line}
+
+abbrev pub line : ℕ → ℕ → ℕ → ℕ → Line
+line kind rows columns stages = record { kind = kind; rows = rows; columns = columns; stages = stages }
+
+abbrev pub numbersOf : Line → List ℕ
+numbersOf line = line .kind ∷ line .rows ∷ line .columns ∷ line .stages ∷ []
+
+-- lines one after the other
+abbrev pub flatLines : List Line → List ℕ
+flatLines [] = []
+flatLines (line ∷ rest) = numbersOf line ++ flatLines rest
+
+-- the trace has room for the step's line
+abbrev pub lineFits : ℕ → List ℕ → Bool
+lineFits step trace = leb (4 * step + 4) (length trace)
+
+-- a trace with a line in the step's place
+abbrev pub withLine : ℕ → Line → List ℕ → List ℕ
+withLine step line trace = take (4 * step) trace ++ (numbersOf line ++ drop (4 * step + 4) trace)

@@ -1,0 +1,21 @@
+-- `value::comparison::less` meets its contract.
+-- Assumes nothing.
+use mir.Facts.{toZ-ofZ}
+use borrow.Author.Needs.{needs}
+use Rattle.value.specs.Range.{bothInRange}
+use Rattle.value.specs.Comparison.{less}
+use Rattle.value.proofs.Machine.{said₂}
+use Rattle.value.proofs.comparison.less.Statement.{statement}
+use Rattle.value.proofs.comparison.less.Tie as tie
+
+both-in-range-requires : tie.Need-both-in-range-requires
+both-in-range-requires c κs = search needs
+
+returns : tie.Need-returns
+unfolding less
+returns c =
+    let f = c .before .fits in
+    rw (said₂ bothInRange (f .a) (f .b) (c .both-in-range .ensures), toZ-ofZ (f .a), toZ-ofZ (f .b))
+
+pub less-spec : {M : Type 1} → statement M
+less-spec = tie.close (tie.spec both-in-range-requires returns)

@@ -1,0 +1,5 @@
+pub mod Range
+pub mod Arithmetic
+pub mod Comparison
+pub mod Aggregate
+pub mod Pattern
