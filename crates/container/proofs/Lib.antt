@@ -1,4 +1,5 @@
--- What the proofs share. AcceptedPlan, AcceptedTables and Verdicts are for the proofs of other crates to cite.
+-- What the proofs share. AcceptedOperations, AcceptedPlan, AcceptedTables and Verdicts are for the proofs of other crates to cite.
+pub mod AcceptedOperations
 pub mod AcceptedPlan
 pub mod AcceptedTables
 mod CellsLeft

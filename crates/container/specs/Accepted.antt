@@ -1,7 +1,7 @@
 -- What an accepted container holds. Each of these is proved.
 use Prim.Native.Nat.{ℕ, _+_, _-_, _*_, _≤_, _<_}
 use mathlib.Core.Path.{_≡_}
-use mathlib.Core.Bool.{true}
+use mathlib.Core.Bool.{Bool, true}
 use mathlib.Core.List.{List, [], _∷_, map}
 use lib.ListN.{length, getD, drop}
 use Rattle.container.specs.Check.{accepted, checkInput}
@@ -10,13 +10,15 @@ use Rattle.container.specs.Layout.{partCount, partOf}
 use Rattle.container.specs.PlanPart.{stepCount, stepAt}
 use Rattle.container.specs.TablePart.{columnsOf, rowCount, cellCount, headerFits, tableOf}
 use Rattle.container.specs.declared.Found.the-variants as found
+use Rattle.label.specs.Discharge.{transformExists}
 use Rattle.label.specs.WellFormed.{wellFormed}
+use Rattle.plan.specs.Numbers.{transformCode, digitsOf}
 use Rattle.plan.specs.Sense.{Each, Shaped, Small}
 use Rattle.plan.specs.Steps.{takes}
 use Rattle.plan.specs.Table.{Table, noTable}
 use Rattle.plan.specs.Widths.{enoughTables, placed, madeColumns}
 use Rattle.plan.specs.declared.Step.{Step}
-use Rattle.plan.specs.declared.Step.the-variants.{Union}
+use Rattle.plan.specs.declared.Step.the-variants.{Scan, Union, Join, Filter, Keep, Apply, Group}
 use Rattle.value.specs.Range.{inRange}
 
 -- 1 to 8 tables
@@ -62,3 +64,16 @@ Placed tables stack (step ∷ later) =
 
 abbrev pub PlanPlaced : Type 0
 PlanPlaced = (bytes : List ℕ) → checkInput bytes ≡ accepted → Placed (map (λ table. table .columns) (tablesOf bytes)) [] (planOf bytes)
+
+-- APPLY's operation exists: a cut takes off 1 to 6 digits
+abbrev pub operationExists : Step → Bool
+operationExists (Scan table) = true
+operationExists Union = true
+operationExists (Join left right) = true
+operationExists (Filter column comparison operand) = true
+operationExists (Keep mask) = true
+operationExists (Apply column transform) = transformExists (transformCode transform) (digitsOf transform)
+operationExists (Group keys aggregate column) = true
+
+abbrev pub OperationsExist : Type 0
+OperationsExist = (bytes : List ℕ) → checkInput bytes ≡ accepted → Each (λ step. operationExists step ≡ true) (planOf bytes)

@@ -1,0 +1,68 @@
+-- One step of a plan and its line. Assumes nothing.
+use Prim.Native.Nat.{ℕ, _≤_, _<_}
+use mathlib.Core.Path.{_≡_, sym, ap, subst, _∙_}
+use mathlib.Core.Bool.{true, false, cond}
+use mathlib.Core.List.{List}
+use native.Mathlib.Omega.{arith}
+use lib.IntN.{ℤ}
+use lib.ListN.{length}
+use Rattle.container.specs.Check.{accepted, checkInput}
+use Rattle.container.specs.Contents.{planOf, tablesOf}
+use Rattle.container.specs.Layout.{partOf}
+use Rattle.container.specs.PlanPart.{stepAt}
+use Rattle.container.specs.declared.Found.{Found}
+use Rattle.container.specs.declared.Found.the-variants as found
+use Rattle.memory.specs.Cells.{cellsOf}
+use Rattle.memory.specs.Stack.{stackOf}
+use Rattle.memory.specs.Steps.{said, verdict, Done}
+use Rattle.memory.specs.declared.Stack.{Stack}
+use Rattle.memory.specs.declared.Stepped.{Stepped}
+use Rattle.plan.specs.Table.{top}
+use Rattle.plan.specs.Trace.{lineOf}
+use Rattle.plan.specs.Verdict.{fine}
+use Rattle.plan.specs.declared.Step.{Step}
+use Rattle.tally.specs.Lines.{withLine}
+use Rattle.evaluator.specs.Steady.{Steady}
+use Rattle.evaluator.specs.Walk.{stepNumber, isMade}
+use Rattle.container.proofs.AcceptedPlan.{steps-counted, steps-found}
+use Rattle.evaluator.proofs.Walking.{made-fine}
+use Rattle.memory.proofs.Stacks.{Ready, is-ready, stack-length}
+
+-- the record at an index of an accepted plan has its step
+module _ (bytes : List ℕ) (index : ℕ) (ok : checkInput bytes ≡ accepted) (h : index < length (planOf bytes)) {part : List ℕ} (p : part ≡ partOf bytes 0) {f : Found} (e : f ≡ stepAt part index) where
+  there : f ≡ found.Step (stepNumber bytes index)
+  there = e ∙ ap (λ (part : List ℕ). stepAt part index) p ∙ steps-found bytes ok index (omega (arith, steps-counted bytes ok))
+
+  pub found-step : {step : Step} → f ≡ found.Step step → step ≡ stepNumber bytes index
+  found-step s = let t = there in cc
+
+  pub found-nothing : f ≡ found.Nothing → ⊥
+  found-nothing s = let t = there in let z : _≡_ {A = ℕ} 0 1 = cc in omega arith
+
+module _ {bytes : List ℕ} (index : ℕ) {v : List ℤ} {l : List ℕ} {stack : Stack} (s : Steady bytes (stepNumber bytes index) v l stack) {known : Step} (e : known ≡ stepNumber bytes index)
+    {done : Stepped} {v′ : List ℤ} {l′ : List ℕ} (d : Done known (tablesOf bytes) v l stack done v′ l′) where
+  pub done-so : Done (stepNumber bytes index) (tablesOf bytes) v l stack done v′ l′
+  done-so = subst (λ (k : Step). Done k (tablesOf bytes) v l stack done v′ l′) e d
+
+  module _ (m : isMade (said (done .answer)) ≡ true) where
+    allowed : verdict (stepNumber bytes index) (tablesOf bytes) (stackOf (cellsOf v l) stack) ≡ fine
+    allowed = made-fine _ (ap isMade (sym (done-so .refusal (s .fits-is))) ∙ m)
+
+    -- the table made is on the stack
+    pub some-made : 1 ≤ done .stack .depth
+    some-made =
+        let n : length (stackOf (cellsOf v′ l′) (done .stack)) ≡ done .stack .depth = stack-length (cellsOf v′ l′) (done .stack) (done .stack .depth) in
+        let more = ap length (done-so .result (s .fits-is) allowed) in
+        omega (arith, n, more)
+
+    pub still-ready : Ready (length v′) (length l′) (done .stack)
+    still-ready = is-ready (length v′) (length l′) (done .stack) (done-so .still (s .fits-is) allowed)
+
+    pub line-made : (t : List ℕ) {t′ : List ℕ} → ((values : List ℤ) → 8192 ≤ length values → t′ ≡ withLine index (lineOf known (top (stackOf (cellsOf values l′) (done .stack)))) t)
+        → t′ ≡ cond (isMade (said (done .answer))) (withLine index (lineOf (stepNumber bytes index) (top (stackOf (cellsOf v′ l′) (done .stack)))) t) t
+    line-made t w =
+        rw m (w v′ (still-ready .values-room) ∙ ap (λ (k : Step). withLine index (lineOf k (top (stackOf (cellsOf v′ l′) (done .stack)))) t) e)
+
+  pub line-none : (t : List ℕ) → isMade (said (done .answer)) ≡ false
+      → t ≡ cond (isMade (said (done .answer))) (withLine index (lineOf (stepNumber bytes index) (top (stackOf (cellsOf v′ l′) (done .stack)))) t) t
+  line-none t m = rw m

@@ -1,0 +1,47 @@
+// The release of the table that a plan leaves.
+ghost use mathlib.Core.Path.{_≡_};
+ghost use Prim.Native.Nat.{_≤_};
+ghost use lib.ListN.{length};
+ghost use Rattle.memory.specs.Cells.{cellsOf};
+ghost use Rattle.memory.specs.Stack.{tableAt};
+ghost use Rattle.evaluator.specs.Answers.{said};
+ghost use Rattle.evaluator.specs.Monitor.{answerOf, rowsOut, written};
+ghost use Rattle.evaluator.specs.Finish.{finish};
+use super::Answer;
+use memory::Place;
+
+// Releases the table of so many rows and columns at the start of work memory: writes its values to the output if every cell is
+// clear and none is OVER. The plan had `steps` steps.
+pub fn release(
+    values: &[i64],
+    labels: &[u32],
+    output: &mut [i64],
+    rows: usize,
+    columns: usize,
+    steps: usize,
+) -> Answer
+    requires { ⌜ (rows ≤ 256) × (columns ≤ 8) × (8192 ≤ length (now values)) × (8192 ≤ length (now labels)) × (2048 ≤ length (now output)) ⌝ }
+    ensures { λ r. ⌜ said r ≡ answerOf (finish steps (tableAt (cellsOf (now (values .entry)) (now (labels .entry))) 0 columns rows)) ⌝ }
+    ensures { λ _. ⌜ now (output .exit) ≡ written (rowsOut (finish steps (tableAt (cellsOf (now (values .entry)) (now (labels .entry))) 0 columns rows))) (now (output .entry)) ⌝ }
+{
+    match memory::not_clear(labels, 0, rows, columns, 255) {
+        Place::At(row, column) => {
+            return Answer::StageLeft(steps, row, column);
+        }
+        Place::DoesNotFit => {
+            return Answer::TooShort;
+        }
+        Place::Nowhere => {}
+    }
+    match tally::first_over(values, 0, rows, columns) {
+        Place::At(row, column) => {
+            return Answer::Over(steps, row, column);
+        }
+        Place::DoesNotFit => {
+            return Answer::TooShort;
+        }
+        Place::Nowhere => {}
+    }
+    tally::copy_out(values, 0, rows * columns, output);
+    Answer::Released(rows, columns)
+}

@@ -1,0 +1,37 @@
+// One step of a plan.
+ghost use Rattle.container.specs.Contents.{tablesOf};
+ghost use Rattle.memory.specs.Steps.{Done};
+ghost use Rattle.evaluator.specs.Steady.{Steady};
+use memory::Stack;
+use memory::Stepped;
+use plan::Step;
+
+// Takes a step on the stack in work memory.
+pub fn take_step(
+    container: &[u8],
+    values: &mut [i64],
+    labels: &mut [u32],
+    stack: Stack,
+    step: Step,
+) -> Stepped
+    requires { ⌜ Steady (now container) step (now values) (now labels) stack ⌝ }
+    ensures { λ r. ⌜ Done step (tablesOf (now (container .entry))) (now (values .entry)) (now (labels .entry)) stack r (now (values .exit)) (now (labels .exit)) ⌝ }
+{
+    match step {
+        Step::Scan { table } => scan::scan(container, values, labels, stack, table),
+        Step::Union => rows::union(values, labels, stack),
+        Step::Join { left, right } => join::join(values, labels, stack, left, right),
+        Step::Filter {
+            column,
+            comparison,
+            operand,
+        } => rows::filter(values, labels, stack, column, comparison, operand),
+        Step::Keep { mask } => rows::keep(values, labels, stack, mask),
+        Step::Apply { column, transform } => apply::apply(values, labels, stack, column, transform),
+        Step::Group {
+            keys,
+            aggregate,
+            column,
+        } => group::group(values, labels, stack, keys, aggregate, column),
+    }
+}

@@ -1,0 +1,169 @@
+//! "The container", and what is "refused because of the input". "Checked in
+//! this order: 11; 12; for each table 13, then for each cell 14, 15; then 16;
+//! then for each step 17, 18, 19."
+
+use super::label::Label;
+use super::steps::{Step, STEP_BYTES};
+use super::table::{Cell, Table};
+use super::value::{in_range, Value};
+use std::ops::Range;
+
+pub const MOST_BYTES: usize = 65_536;
+pub const MOST_ROWS: usize = 256;
+const PAIR_BYTES: usize = 8;
+const CELL_BYTES: usize = 12;
+
+#[derive(Clone, Copy, PartialEq, Eq, Hash, Debug)]
+pub enum InputFault {
+    Container,
+    Directory,
+    TableHeader,
+    ValueRange,
+    IllFormedLabel,
+    PlanLength,
+    Field,
+    Tables,
+    Shape,
+}
+
+impl InputFault {
+    pub fn number(self) -> u32 {
+        match self {
+            InputFault::Container => 11,
+            InputFault::Directory => 12,
+            InputFault::TableHeader => 13,
+            InputFault::ValueRange => 14,
+            InputFault::IllFormedLabel => 15,
+            InputFault::PlanLength => 16,
+            InputFault::Field => 17,
+            InputFault::Tables => 18,
+            InputFault::Shape => 19,
+        }
+    }
+}
+
+/// A refusal because of the input; the place is a byte offset.
+#[derive(Clone, Copy, PartialEq, Eq, Debug)]
+pub struct InputRefusal {
+    pub fault: InputFault,
+    pub offset: usize,
+}
+
+fn refuse<T>(fault: InputFault, offset: usize) -> Result<T, InputRefusal> {
+    Err(InputRefusal { fault, offset })
+}
+
+/// A container past the input checks.
+pub struct Container {
+    pub tables: Vec<Table>,
+    pub plan: Vec<Step>,
+}
+
+pub fn parse(bytes: &[u8]) -> Result<Container, InputRefusal> {
+    let parts = directory(bytes)?;
+    let mut tables = Vec::new();
+    for part in &parts[1..] {
+        tables.push(table(bytes, part.clone())?);
+    }
+    let plan = plan(bytes, parts[0].clone(), &tables)?;
+    Ok(Container { tables, plan })
+}
+
+fn u16_at(bytes: &[u8], offset: usize) -> usize {
+    u16::from_le_bytes(bytes[offset..offset + 2].try_into().unwrap()) as usize
+}
+
+fn u32_at(bytes: &[u8], offset: usize) -> u32 {
+    u32::from_le_bytes(bytes[offset..offset + 4].try_into().unwrap())
+}
+
+fn i64_at(bytes: &[u8], offset: usize) -> i64 {
+    i64::from_le_bytes(bytes[offset..offset + 8].try_into().unwrap())
+}
+
+/// "First a 16-bit part count, 2 to 9, then a directory with one pair per
+/// part, 32-bit offset and 32-bit length."
+fn directory(bytes: &[u8]) -> Result<Vec<Range<usize>>, InputRefusal> {
+    if bytes.len() > MOST_BYTES || bytes.len() < 2 {
+        return refuse(InputFault::Container, 0);
+    }
+    let count = u16_at(bytes, 0);
+    if !(2..=9).contains(&count) || bytes.len() < 2 + PAIR_BYTES * count {
+        return refuse(InputFault::Container, 0);
+    }
+    // "The first part begins where the directory ends, each next one where the
+    // last ends, and the final one ends the container."
+    let pair = |part: usize| 2 + PAIR_BYTES * part;
+    let mut expected = pair(count) as u64;
+    let mut parts = Vec::new();
+    for part in 0..count {
+        let offset = u32_at(bytes, pair(part)) as u64;
+        let length = u32_at(bytes, pair(part) + 4) as u64;
+        if offset != expected {
+            return refuse(InputFault::Directory, pair(part));
+        }
+        expected = offset + length;
+        parts.push(offset as usize..expected as usize);
+    }
+    if expected != bytes.len() as u64 {
+        return refuse(InputFault::Directory, pair(count - 1));
+    }
+    Ok(parts)
+}
+
+/// "Table: byte 0 columns 1 to 8, byte 1 zero, then 16-bit rows 0 to 256, then
+/// the cells row by row, each a signed 64-bit value and a label. Part length is
+/// 4 + 12 × rows × columns."
+fn table(bytes: &[u8], part: Range<usize>) -> Result<Table, InputRefusal> {
+    let start = part.start;
+    if part.len() < 4 {
+        return refuse(InputFault::TableHeader, start);
+    }
+    let columns = bytes[start] as usize;
+    let rows = u16_at(bytes, start + 2);
+    let header = (1..=8).contains(&columns) && bytes[start + 1] == 0 && rows <= MOST_ROWS;
+    if !header || part.len() != 4 + CELL_BYTES * rows * columns {
+        return refuse(InputFault::TableHeader, start);
+    }
+    let mut table = Table { columns, cells: Vec::with_capacity(rows * columns) };
+    for cell in 0..rows * columns {
+        let field = start + 4 + CELL_BYTES * cell;
+        let number = i64_at(bytes, field);
+        if !in_range(number) {
+            return refuse(InputFault::ValueRange, field);
+        }
+        let label = match Label::from_word(u32_at(bytes, field + 8)) {
+            Some(label) => label,
+            None => return refuse(InputFault::IllFormedLabel, field + 8),
+        };
+        table.cells.push(Cell { value: Value::Known(number), label });
+    }
+    Ok(table)
+}
+
+/// "Plan: 1 to 64 steps of 16 bytes." "A plan that leaves other than one table
+/// gives 18 at the plan's end."
+fn plan(bytes: &[u8], part: Range<usize>, tables: &[Table]) -> Result<Vec<Step>, InputRefusal> {
+    let whole = part.len() % STEP_BYTES == 0;
+    if !whole || !(1..=64).contains(&(part.len() / STEP_BYTES)) {
+        return refuse(InputFault::PlanLength, part.start);
+    }
+    let widths: Vec<usize> = tables.iter().map(|table| table.columns).collect();
+    let mut stack = Vec::new();
+    let mut steps = Vec::new();
+    for offset in part.clone().step_by(STEP_BYTES) {
+        let field: &[u8; STEP_BYTES] = bytes[offset..offset + STEP_BYTES].try_into().unwrap();
+        let step = match Step::read(field) {
+            Some(step) => step,
+            None => return refuse(InputFault::Field, offset),
+        };
+        if let Err(fault) = step.shape(&mut stack, &widths) {
+            return refuse(fault, offset);
+        }
+        steps.push(step);
+    }
+    if stack.len() != 1 {
+        return refuse(InputFault::Tables, part.end);
+    }
+    Ok(steps)
+}

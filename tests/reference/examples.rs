@@ -1,0 +1,84 @@
+//! Document 01's examples and its printed case.
+//!
+//!     rustc -O --edition 2021 --test -o reference-tests tests/reference/main.rs
+
+use super::print_run;
+use super::reference::label::{Forbidden, Label};
+use super::reference::steps::{Aggregate, Operand, Operation};
+use super::reference::value::{aggregate, Value, HIGHEST, LOWEST};
+
+fn label(word: u32) -> Label {
+    let label = Label::from_word(word).expect("well-formed");
+    assert_eq!(label.word(), word);
+    label
+}
+
+fn compose(a: u32, b: u32) -> u32 {
+    let both = label(a).compose(&label(b));
+    assert_eq!(both, label(b).compose(&label(a)));
+    both.word()
+}
+
+#[test]
+fn examples_1_to_3_composition() {
+    assert_eq!(compose(0x20030014, 0x2002001E), 0x2002001E);
+    assert_eq!(compose(0x44000C00, 0x20030014), 0x64030C14);
+    assert_eq!(compose(0x45000C00, 0x41000000), 0x41000000);
+}
+
+#[test]
+fn examples_4_to_6_discharge() {
+    let chain = label(0x64030C14);
+    assert_eq!(chain.after_operation(&Operation::Cut(3)), Ok(label(0x20030014)));
+    assert_eq!(chain.after_operation(&Operation::Cut(2)), Ok(chain));
+    let sums = label(0x20030014);
+    assert_eq!(sums.after_aggregate(Aggregate::Sum, 20), Ok(label(0)));
+    assert_eq!(sums.after_aggregate(Aggregate::Sum, 19), Ok(sums));
+    assert_eq!(chain.after_aggregate(Aggregate::Sum, 20), Err(Forbidden));
+}
+
+#[test]
+fn example_7_well_formed() {
+    for word in [0x00000001, 0x20030000, 0x44000000] {
+        assert_eq!(Label::from_word(word), None);
+    }
+    label(0x20000001);
+    label(0x80000000);
+}
+
+#[test]
+fn examples_8_to_10_values() {
+    let known = Value::Known;
+    assert_eq!(known(-15).cut(1), known(-1));
+    assert_eq!(known(-15).band(10), known(-20));
+    assert_eq!(aggregate(Aggregate::Avg, &[known(-1), known(0)]), known(-1));
+    assert_eq!(known(LOWEST).band(3), Value::Over);
+    assert_eq!(known(HIGHEST).add(known(1)), Value::Over);
+    let add = Operation::Add(Operand::Constant(1));
+    assert_eq!(label(0x80000000).after_operation(&add), Err(Forbidden));
+}
+
+/// The printed case, with the label of the two cells in column 1.
+fn printed(word: u32) -> String {
+    let mut bytes = vec![2, 0];
+    for number in [18u32, 32, 50, 52] {
+        bytes.extend(number.to_le_bytes());
+    }
+    bytes.extend([1, 0, 0, 0, 0, 0, 0, 0, 0, 0, 0, 0, 0, 0, 0, 0]);
+    bytes.extend([7, 1, 1, 1, 0, 0, 0, 0, 0, 0, 0, 0, 0, 0, 0, 0]);
+    bytes.extend([2, 0, 2, 0]);
+    for (value, label) in [(7i64, 0u32), (3, word), (7, 0), (5, word)] {
+        bytes.extend(value.to_le_bytes());
+        bytes.extend(label.to_le_bytes());
+    }
+    assert_eq!(bytes.len(), 102);
+    let mut text = String::new();
+    print_run(&bytes, &mut text);
+    text
+}
+
+#[test]
+fn the_printed_case() {
+    assert_eq!(printed(0x20020002), "S 0 1 2 2 2\nS 1 7 1 2 0\nR 7 8\n");
+    assert_eq!(printed(0x20020003), "S 0 1 2 2 2\nS 1 7 1 2 1\nX 35 2 0 1\n");
+}
