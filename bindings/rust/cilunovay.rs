@@ -1,0 +1,352 @@
+//! The release monitor for Rust, with nothing unsafe for its callers.
+//!
+//! Take this file in as a module and link `libcilunovay.a`, which
+//! `rt staticlib cilunovay` writes for x86-64 Linux:
+//!
+//!     rustc --edition 2021 -L native=DIRECTORY -l static=cilunovay PROGRAM.rs
+//!
+//! [`Monitor::run`] evaluates a container; [`check`] does the input checks
+//! alone. Both answer for every slice of bytes. Rows, columns, steps and byte
+//! offsets count from 0.
+
+use std::fmt;
+
+/// The longest container, in bytes. A longer one is refused.
+pub const LONGEST_CONTAINER: usize = 65_536;
+
+const WORK: usize = 8_192;
+const OUTPUT: usize = 2_048;
+const TRACE: usize = 256;
+
+// A slice is lent as a pointer and a length; include/cilunovay.h has the contracts.
+extern "C" {
+    fn cilunovay_run(
+        container: *const u8,
+        container_length: usize,
+        values: *mut i64,
+        values_length: usize,
+        labels: *mut u32,
+        labels_length: usize,
+        output: *mut i64,
+        output_length: usize,
+        trace: *mut u32,
+        trace_length: usize,
+        answer: *mut u64,
+        answer_length: usize,
+    ) -> u32;
+
+    fn cilunovay_check(
+        container: *const u8,
+        container_length: usize,
+        answer: *mut u64,
+        answer_length: usize,
+    ) -> u32;
+}
+
+/// The kind of a plan's step.
+#[derive(Clone, Copy, PartialEq, Eq, Hash, Debug)]
+pub enum Kind {
+    Scan,
+    Union,
+    Join,
+    Filter,
+    Keep,
+    Apply,
+    Group,
+}
+
+impl Kind {
+    /// The number of the kind in a container and in a trace, 1 to 7.
+    pub fn number(self) -> u32 {
+        self as u32 + 1
+    }
+
+    fn from_number(number: u32) -> Kind {
+        match number {
+            1 => Kind::Scan,
+            2 => Kind::Union,
+            3 => Kind::Join,
+            4 => Kind::Filter,
+            5 => Kind::Keep,
+            6 => Kind::Apply,
+            7 => Kind::Group,
+            _ => unreachable!("a step has a kind from 1 to 7"),
+        }
+    }
+}
+
+/// The trace line of a finished step: its kind, and of the table that it made
+/// the rows, the columns, and the sum of present stages over all cells.
+#[derive(Clone, Copy, PartialEq, Eq, Debug)]
+pub struct Line {
+    pub kind: Kind,
+    pub rows: u32,
+    pub columns: u32,
+    pub stages_left: u32,
+}
+
+/// A released table, and a line for each step of the plan.
+#[derive(Clone, PartialEq, Eq, Debug)]
+pub struct Release {
+    pub rows: usize,
+    /// 1 to 8.
+    pub columns: usize,
+    /// Row by row, `rows` times `columns` of them.
+    pub values: Vec<i64>,
+    pub trace: Vec<Line>,
+}
+
+impl Release {
+    /// The rows, each with a value for each column.
+    pub fn iter(&self) -> std::slice::Chunks<'_, i64> {
+        self.values.chunks(self.columns)
+    }
+}
+
+/// What is wrong with a container.
+#[derive(Clone, Copy, PartialEq, Eq, Hash, Debug)]
+pub enum InputFault {
+    /// 11: its length, or the part count.
+    Container,
+    /// 12: a pair of the directory.
+    Directory,
+    /// 13: a table's header or length.
+    Table,
+    /// 14: a value out of range.
+    Value,
+    /// 15: an ill-formed label.
+    Label,
+    /// 16: the plan's length.
+    Plan,
+    /// 17: a field of a step.
+    Step,
+    /// 18: too few tables for a step, too many, or other than one at the end.
+    Tables,
+    /// 19: a table or a column that is not there, unequal widths, or too many columns.
+    Columns,
+}
+
+impl InputFault {
+    /// Document 01's number, 11 to 19.
+    pub fn number(self) -> u32 {
+        self as u32 + 11
+    }
+
+    fn from_number(number: u32) -> InputFault {
+        match number {
+            11 => InputFault::Container,
+            12 => InputFault::Directory,
+            13 => InputFault::Table,
+            14 => InputFault::Value,
+            15 => InputFault::Label,
+            16 => InputFault::Plan,
+            17 => InputFault::Step,
+            18 => InputFault::Tables,
+            19 => InputFault::Columns,
+            _ => unreachable!("the input is refused with 11 to 19"),
+        }
+    }
+}
+
+/// Why an evaluation, or its release, is refused.
+#[derive(Clone, Copy, PartialEq, Eq, Hash, Debug)]
+pub enum StateFault {
+    /// 31: a FILTER operand, JOIN key or GROUP key is not clear.
+    NotClear,
+    /// 32: APPLY or GROUP is forbidden by a label.
+    Forbidden,
+    /// 33: APPLY's second operand is not clear.
+    OperandNotClear,
+    /// 34: UNION or JOIN would make more than 256 rows.
+    TooMany,
+    /// 35: at release a cell has a stage left.
+    StageLeft,
+    /// 36: at release a cell is OVER.
+    Over,
+}
+
+impl StateFault {
+    /// Document 01's number, 31 to 36.
+    pub fn number(self) -> u32 {
+        self as u32 + 31
+    }
+
+    fn from_number(number: u32) -> StateFault {
+        match number {
+            31 => StateFault::NotClear,
+            32 => StateFault::Forbidden,
+            33 => StateFault::OperandNotClear,
+            34 => StateFault::TooMany,
+            35 => StateFault::StageLeft,
+            36 => StateFault::Over,
+            _ => unreachable!("an evaluation is refused with 31 to 36"),
+        }
+    }
+}
+
+/// A refusal because of the input. The place is a byte offset in the container.
+#[derive(Clone, Copy, PartialEq, Eq, Hash, Debug)]
+pub struct InputRefusal {
+    pub fault: InputFault,
+    pub offset: usize,
+}
+
+/// A refusal because of the state, and the lines of the finished steps. The
+/// place is a step, and a row and a column of the table that it read; for 35 and
+/// 36 the step is the number of steps.
+#[derive(Clone, PartialEq, Eq, Debug)]
+pub struct StateRefusal {
+    pub fault: StateFault,
+    pub step: usize,
+    pub row: usize,
+    pub column: usize,
+    pub trace: Vec<Line>,
+}
+
+/// Why nothing is released.
+#[derive(Clone, PartialEq, Eq, Debug)]
+pub enum Refusal {
+    Input(InputRefusal),
+    State(StateRefusal),
+}
+
+impl Refusal {
+    /// Document 01's number: 11 to 19, or 31 to 36.
+    pub fn number(&self) -> u32 {
+        match self {
+            Refusal::Input(refusal) => refusal.fault.number(),
+            Refusal::State(refusal) => refusal.fault.number(),
+        }
+    }
+
+    /// The lines of the finished steps; none where the input is refused.
+    pub fn trace(&self) -> &[Line] {
+        match self {
+            Refusal::Input(_) => &[],
+            Refusal::State(refusal) => &refusal.trace,
+        }
+    }
+}
+
+impl fmt::Display for InputRefusal {
+    fn fmt(&self, f: &mut fmt::Formatter<'_>) -> fmt::Result {
+        write!(f, "refused with {} at byte {}", self.fault.number(), self.offset)
+    }
+}
+
+impl fmt::Display for StateRefusal {
+    fn fmt(&self, f: &mut fmt::Formatter<'_>) -> fmt::Result {
+        let StateRefusal { fault, step, row, column, .. } = self;
+        write!(f, "refused with {} at step {step}, row {row}, column {column}", fault.number())
+    }
+}
+
+impl fmt::Display for Refusal {
+    fn fmt(&self, f: &mut fmt::Formatter<'_>) -> fmt::Result {
+        match self {
+            Refusal::Input(refusal) => refusal.fmt(f),
+            Refusal::State(refusal) => refusal.fmt(f),
+        }
+    }
+}
+
+impl std::error::Error for InputRefusal {}
+impl std::error::Error for StateRefusal {}
+impl std::error::Error for Refusal {}
+
+/// A monitor with its work memory. It may run any number of containers, one
+/// after the other; nothing of one shows in the next.
+pub struct Monitor {
+    values: Vec<i64>,
+    labels: Vec<u32>,
+    output: Vec<i64>,
+    trace: Vec<u32>,
+}
+
+impl Default for Monitor {
+    fn default() -> Monitor {
+        Monitor::new()
+    }
+}
+
+impl Monitor {
+    pub fn new() -> Monitor {
+        Monitor {
+            values: vec![0; WORK],
+            labels: vec![0; WORK],
+            output: vec![0; OUTPUT],
+            trace: vec![0; TRACE],
+        }
+    }
+
+    /// Evaluates a container's plan, and releases a table or refuses.
+    pub fn run(&mut self, container: &[u8]) -> Result<Release, Refusal> {
+        // No step has kind 0, so a zero kind ends the finished steps.
+        self.trace.fill(0);
+        let mut answer = [0u64; 4];
+        // Each pointer comes from a slice of the length given with it, and no two
+        // of them overlap.
+        let number = unsafe {
+            cilunovay_run(
+                container.as_ptr(),
+                container.len(),
+                self.values.as_mut_ptr(),
+                self.values.len(),
+                self.labels.as_mut_ptr(),
+                self.labels.len(),
+                self.output.as_mut_ptr(),
+                self.output.len(),
+                self.trace.as_mut_ptr(),
+                self.trace.len(),
+                answer.as_mut_ptr(),
+                answer.len(),
+            )
+        };
+        let [_, first, second, third] = answer.map(|number| number as usize);
+        match number {
+            0 => {
+                let values = self.output[..first * second].to_vec();
+                Ok(Release { rows: first, columns: second, values, trace: self.lines() })
+            }
+            11..=19 => {
+                let fault = InputFault::from_number(number);
+                Err(Refusal::Input(InputRefusal { fault, offset: first }))
+            }
+            _ => Err(Refusal::State(StateRefusal {
+                fault: StateFault::from_number(number),
+                step: first,
+                row: second,
+                column: third,
+                trace: self.lines(),
+            })),
+        }
+    }
+
+    fn lines(&self) -> Vec<Line> {
+        let finished = self.trace.chunks(4).take_while(|line| line[0] != 0);
+        finished
+            .map(|line| Line {
+                kind: Kind::from_number(line[0]),
+                rows: line[1],
+                columns: line[2],
+                stages_left: line[3],
+            })
+            .collect()
+    }
+}
+
+/// The input checks alone.
+pub fn check(container: &[u8]) -> Result<(), InputRefusal> {
+    let mut answer = [0u64; 2];
+    // Each pointer comes from a slice of the length given with it.
+    let number = unsafe {
+        cilunovay_check(container.as_ptr(), container.len(), answer.as_mut_ptr(), answer.len())
+    };
+    match number {
+        0 => Ok(()),
+        _ => Err(InputRefusal {
+            fault: InputFault::from_number(number),
+            offset: answer[1] as usize,
+        }),
+    }
+}

@@ -1,0 +1,72 @@
+-- What the two calls do is what `runCall` and `checkCall` say. Assumes nothing.
+use Prim.Native.Nat.{ℕ, _≤_, _<_}
+use mathlib.Core.Path.{_≡_, refl, ap, _∙_}
+use mathlib.Core.List.{List, [], _∷_}
+use native.Mathlib.Omega.{arith}
+use lib.ListN.{length, getD, set}
+use borrow.Author.Tests.{le-leb, lt-leb}
+use Rattle.container.specs.Check.{Verdict, accepted, refused, checkInput}
+use Rattle.evaluator.specs.Answers.{Told, released, refusedInput, refusedState}
+use Rattle.evaluator.specs.Lent.{Lent}
+use Rattle.evaluator.specs.Monitor.{Run, ended, written, monitor}
+use Rattle.cilunovay.specs.Calls.{runCalled, runTold, runCall, checkCalled, checkTold, checkCall}
+use Rattle.cilunovay.specs.Numbers.{numbersOf, checkNumbersOf}
+
+-- ---- numbers stored one by one at the start of a slice
+
+abbrev twoStored : List ℕ → List ℕ → List ℕ
+twoStored numbers old = set (set old 0 (getD numbers 0 0)) 1 (getD numbers 1 0)
+
+abbrev fourStored : List ℕ → List ℕ → List ℕ
+fourStored numbers old = set (set (twoStored numbers old) 2 (getD numbers 2 0)) 3 (getD numbers 3 0)
+
+two-stored : (a b : ℕ) (old : List ℕ) → 2 ≤ length old → twoStored (a ∷ b ∷ []) old ≡ written (a ∷ b ∷ []) old
+two-stored a b [] h = absurd (omega arith)
+two-stored a b (_ ∷ []) h = absurd (omega arith)
+two-stored a b (_ ∷ _ ∷ rest) h = refl
+
+four-stored : (a b c d : ℕ) (old : List ℕ) → 4 ≤ length old → fourStored (a ∷ b ∷ c ∷ d ∷ []) old ≡ written (a ∷ b ∷ c ∷ d ∷ []) old
+four-stored a b c d [] h = absurd (omega arith)
+four-stored a b c d (_ ∷ []) h = absurd (omega arith)
+four-stored a b c d (_ ∷ _ ∷ []) h = absurd (omega arith)
+four-stored a b c d (_ ∷ _ ∷ _ ∷ []) h = absurd (omega arith)
+four-stored a b c d (_ ∷ _ ∷ _ ∷ _ ∷ rest) h = refl
+
+told-stored : (told : Told) (old : List ℕ) → 4 ≤ length old → fourStored (numbersOf told) old ≡ written (numbersOf told) old
+told-stored (released rows columns) = four-stored 0 rows columns 0
+told-stored (refusedInput number place) = four-stored number place 0 0
+told-stored (refusedState number step row column) = four-stored number step row column
+
+verdict-stored : (verdict : Verdict) (old : List ℕ) → 2 ≤ length old → twoStored (checkNumbersOf verdict) old ≡ written (checkNumbersOf verdict) old
+verdict-stored accepted = two-stored 0 0
+verdict-stored (refused number place) = two-stored number place
+
+-- ---- the calls
+
+module _ (bytes : List ℕ) (lent : Lent) (answer : List ℕ) where
+  pub run-short : length answer < 4 → runCalled 1 lent answer ≡ runCall bytes lent answer
+  unfolding runCall
+  run-short h = rw (lt-leb 4 (length answer) h)
+
+  pub run-long : {told : Told} {left : Lent} {numbers : List ℕ} → 4 ≤ length answer → ended told left ≡ monitor bytes lent → numbers ≡ numbersOf told
+      → runCalled (getD numbers 0 0) left (fourStored numbers answer) ≡ runCall bytes lent answer
+  unfolding runCall
+  run-long {told} {left} {numbers} h e n =
+      ap (λ (l : List ℕ). runCalled (getD l 0 0) left (fourStored l answer)) n
+      ∙ ap (λ (l : List ℕ). runCalled (getD (numbersOf told) 0 0) left l) (told-stored told answer h)
+      ∙ ap (λ (run : Run). runTold run answer) e
+      ∙ rw (le-leb 4 (length answer) h)
+
+module _ (bytes answer : List ℕ) where
+  pub check-short : length answer < 2 → checkCalled 1 answer ≡ checkCall bytes answer
+  unfolding checkCall
+  check-short h = rw (lt-leb 2 (length answer) h)
+
+  pub check-long : {verdict : Verdict} {numbers : List ℕ} → 2 ≤ length answer → verdict ≡ checkInput bytes → numbers ≡ checkNumbersOf verdict
+      → checkCalled (getD numbers 0 0) (twoStored numbers answer) ≡ checkCall bytes answer
+  unfolding checkCall
+  check-long {verdict} {numbers} h e n =
+      ap (λ (l : List ℕ). checkCalled (getD l 0 0) (twoStored l answer)) n
+      ∙ ap (λ (l : List ℕ). checkCalled (getD (checkNumbersOf verdict) 0 0) l) (verdict-stored verdict answer h)
+      ∙ ap (λ (v : Verdict). checkTold (checkNumbersOf v) answer) e
+      ∙ rw (le-leb 2 (length answer) h)

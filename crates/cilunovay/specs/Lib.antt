@@ -1,0 +1,3 @@
+-- What callers in other languages get: the monitor and the input checks, their answers as numbers.
+pub mod Numbers
+pub mod Calls

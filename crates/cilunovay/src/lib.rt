@@ -1,0 +1,7 @@
+// The monitor for callers in C, C++ and Rust: numbers and slices only. Each slice is lent as a pointer and a length.
+mod check;
+mod numbers;
+mod run;
+
+pub use check::cilunovay_check;
+pub use run::cilunovay_run;

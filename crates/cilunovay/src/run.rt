@@ -1,0 +1,30 @@
+// A run of the monitor.
+ghost use mathlib.Core.Path.{_≡_};
+ghost use Rattle.evaluator.specs.Lent.{lent};
+ghost use Rattle.cilunovay.specs.Calls.{runCall, runCalled};
+use super::numbers::run_numbers;
+
+// Runs the monitor, writes document 01's number and the three numbers after it to the answer's start, and answers the number: 0 for a
+// release. Where the answer has fewer than four elements, nothing lent changes and the number is 1.
+#[no_mangle]
+pub extern "C" fn cilunovay_run(
+    container: &[u8],
+    values: &mut [i64],
+    labels: &mut [u32],
+    output: &mut [i64],
+    trace: &mut [u32],
+    answer: &mut [u64],
+) -> u32
+    ensures { λ r. ⌜ runCalled r (lent (now (values .exit)) (now (labels .exit)) (now (output .exit)) (now (trace .exit))) (now (answer .exit)) ≡ runCall (now (container .entry)) (lent (now (values .entry)) (now (labels .entry)) (now (output .entry)) (now (trace .entry))) (now (answer .entry)) ⌝ }
+{
+    if answer.len() < 4 {
+        return 1;
+    }
+    let told = evaluator::run(container, values, labels, output, trace);
+    let numbers = run_numbers(told);
+    answer[0] = numbers[0];
+    answer[1] = numbers[1];
+    answer[2] = numbers[2];
+    answer[3] = numbers[3];
+    numbers[0] as u32
+}

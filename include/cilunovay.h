@@ -1,0 +1,103 @@
+/* The release monitor, for C and C++.
+ *
+ * Links with libcilunovay.a (`rt staticlib cilunovay`), for x86-64 Linux.
+ *
+ * Both functions are proved to do what is said here for every container and
+ * every length, and to return. They call only memcpy and memset, keep nothing
+ * between calls, and may be called from several threads at once, each with
+ * slices of its own.
+ *
+ * Each slice is lent as a pointer and a number of elements. The caller owes, and
+ * nothing tests: a pointer is not null, also where the number is 0, is aligned
+ * for its type, and points to that many elements; no slice overlaps another; and
+ * until the call returns nobody else writes the container or touches the other
+ * slices.
+ */
+#ifndef CILUNOVAY_H
+#define CILUNOVAY_H
+
+#include <stddef.h>
+#include <stdint.h>
+
+/* Elements that a run needs in each slice; more are allowed and stay as they are. */
+#define CILUNOVAY_WORK 8192   /* work values, and work labels */
+#define CILUNOVAY_OUTPUT 2048 /* released values */
+#define CILUNOVAY_TRACE 256   /* four for each of at most 64 steps */
+#define CILUNOVAY_ANSWER 4
+#define CILUNOVAY_CHECK_ANSWER 2
+
+/* The longest container, in bytes. A longer slice is refused with 11. */
+#define CILUNOVAY_CONTAINER 65536
+
+/* The numbers that both functions return and write to answer[0]. */
+#define CILUNOVAY_RELEASED 0 /* cilunovay_check: accepted */
+
+/* A lent slice is too short. */
+#define CILUNOVAY_TOO_SHORT 1
+
+/* Refused because of the input; the place is a byte offset in the container. */
+#define CILUNOVAY_BAD_CONTAINER 11 /* its length, or the part count */
+#define CILUNOVAY_BAD_DIRECTORY 12 /* a pair of the directory */
+#define CILUNOVAY_BAD_TABLE 13     /* a table's header or length */
+#define CILUNOVAY_BAD_VALUE 14     /* a value out of range */
+#define CILUNOVAY_BAD_LABEL 15     /* an ill-formed label */
+#define CILUNOVAY_BAD_PLAN 16      /* the plan's length */
+#define CILUNOVAY_BAD_STEP 17      /* a field of a step */
+#define CILUNOVAY_BAD_TABLES 18    /* too few tables for a step, or too many */
+#define CILUNOVAY_BAD_COLUMNS 19   /* a table or a column that is not there */
+
+/* Refused because of the state; the place is step, row and column. */
+#define CILUNOVAY_NOT_CLEAR 31         /* a FILTER operand, JOIN key or GROUP key has a label */
+#define CILUNOVAY_FORBIDDEN 32         /* APPLY or GROUP forbidden by a label */
+#define CILUNOVAY_OPERAND_NOT_CLEAR 33 /* APPLY's second operand has a label */
+#define CILUNOVAY_TOO_MANY 34          /* UNION or JOIN would make more than 256 rows */
+#define CILUNOVAY_STAGE_LEFT 35        /* a cell of the last table has a stage left */
+#define CILUNOVAY_OVER 36              /* a cell of the last table is OVER */
+
+#ifdef __cplusplus
+extern "C" {
+#endif
+
+/* Evaluates the container's plan over its tables, and releases a table with a
+ * trace, or refuses and says where. Writes four numbers to the start of answer
+ * and returns the first:
+ *
+ *   0, rows, columns, 0         released: output begins with the table's values,
+ *                               row by row
+ *   1, 0, 0, 0                  values, labels, output or trace is too short; this
+ *                               is tested before the container is read
+ *   11 to 19, offset, 0, 0      refused because of the input
+ *   31 to 36, step, row, column refused because of the state
+ *
+ * After 1 and after 11 to 19 nothing else has changed. After a release and after
+ * 31 to 36, trace begins with four numbers for each finished step (kind, rows,
+ * columns, stages left; after a release, 35 and 36 every step is finished), and
+ * the first CILUNOVAY_WORK elements of values and of labels are zero. A refusal
+ * leaves output as it was. Everything else lent is as it was.
+ *
+ * Where answer has fewer than CILUNOVAY_ANSWER elements, nothing lent changes at
+ * all, the answer included, and 1 is returned: a lent slice is too short.
+ *
+ * What values, labels, output and trace hold before the call plays no part in
+ * the answer, the rows and the trace lines.
+ */
+uint32_t cilunovay_run(const uint8_t *container, size_t container_length,
+                       int64_t *values, size_t values_length,
+                       uint32_t *labels, size_t labels_length,
+                       int64_t *output, size_t output_length,
+                       uint32_t *trace, size_t trace_length,
+                       uint64_t *answer, size_t answer_length);
+
+/* The input checks of cilunovay_run alone. Writes two numbers to the start of
+ * answer and returns the first: 0, 0 where the container is accepted, else 11 to
+ * 19 and the offset. The rest of answer is as it was. Where answer has fewer than
+ * CILUNOVAY_CHECK_ANSWER elements it is left as it was, and 1 is returned.
+ */
+uint32_t cilunovay_check(const uint8_t *container, size_t container_length,
+                         uint64_t *answer, size_t answer_length);
+
+#ifdef __cplusplus
+}
+#endif
+
+#endif

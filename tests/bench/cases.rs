@@ -1,0 +1,135 @@
+//! What is measured: one plan for each kind of step, and a mixed one, each with
+//! the same query in SQL.
+
+use crate::draft::{step, Draft, RawStep, RawTable};
+
+pub struct Case {
+    pub name: &'static str,
+    pub make: fn(usize) -> (Draft, &'static str),
+}
+
+/// T (cut 3) over A (sum and count, 1): cut and sum clear it.
+const CUT_THEN_SUM: u32 = 0x6403_0C01;
+const SUM: u32 = 0x2003_0001;
+
+/// Rows of the largest table.
+pub const SIZES: [usize; 3] = [16, 64, 256];
+
+pub static CASES: [Case; 9] = [
+    Case {
+        name: "SCAN",
+        make: |rows| (draft(vec![table(8, rows, 0, 0)], &[scan(0)]), "SELECT * FROM t0"),
+    },
+    Case {
+        name: "UNION",
+        make: |rows| {
+            let tables = vec![table(8, rows / 2, 0, 0), table(8, rows / 2, 1, 0)];
+            let steps = [scan(0), scan(1), step(2, 0, 0, 0, 0, 0)];
+            (draft(tables, &steps), "SELECT * FROM t0 UNION ALL SELECT * FROM t1")
+        },
+    },
+    Case {
+        name: "JOIN",
+        make: |rows| {
+            let tables = vec![table(4, rows, 0, 0), table(5, rows, 1, 0)];
+            let steps = [scan(0), scan(1), step(3, 0, 0, 0, 0, 0)];
+            let sql = "SELECT t0.*, t1.c1, t1.c2, t1.c3, t1.c4 FROM t0 JOIN t1 ON t0.c0 = t1.c0";
+            (draft(tables, &steps), sql)
+        },
+    },
+    Case {
+        name: "FILTER",
+        make: |rows| {
+            let steps = [scan(0), step(4, 1, 2, 0, 0, 50)];
+            (draft(vec![table(8, rows, 0, 0)], &steps), "SELECT * FROM t0 WHERE c1 < 50")
+        },
+    },
+    Case {
+        name: "KEEP",
+        make: |rows| {
+            let steps = [scan(0), step(5, 0b0101_0110, 0, 0, 0, 0)];
+            (draft(vec![table(8, rows, 0, 0)], &steps), "SELECT c1, c2, c4, c6 FROM t0")
+        },
+    },
+    Case {
+        name: "APPLY",
+        make: |rows| {
+            let steps = [scan(0), step(6, 2, 0, 1, 3, 0)];
+            (draft(vec![table(7, rows, 0, 0)], &steps), "SELECT *, c2 + c3 FROM t0")
+        },
+    },
+    Case {
+        name: "GROUP",
+        make: |rows| {
+            let steps = [scan(0), step(7, 2, 1, 2, 0, 0)];
+            let sql = "SELECT c1, sum(c2) FROM t0 GROUP BY c1";
+            (draft(vec![table(8, rows, 0, SUM)], &steps), sql)
+        },
+    },
+    Case {
+        name: "GROUP, few keys",
+        make: |rows| {
+            let steps = [scan(0), step(7, 8, 4, 2, 0, 0)];
+            let sql = "SELECT c3, sum(c2) / count(*) FROM t0 GROUP BY c3";
+            (draft(vec![table(8, rows, 0, 0)], &steps), sql)
+        },
+    },
+    Case {
+        name: "mixed",
+        // The largest fills the container: 256, 256 and 168 rows of 8 columns.
+        make: |rows| {
+            let third = table(8, rows * 168 / 256, 0, 0);
+            let tables =
+                vec![table(8, rows, 0, CUT_THEN_SUM), table(8, rows, 1, CUT_THEN_SUM), third];
+            let steps = [
+                scan(0),
+                step(4, 1, 2, 0, 0, 50),
+                scan(1),
+                step(4, 1, 5, 0, 0, 50),
+                step(2, 0, 0, 0, 0, 0),
+                step(5, 0b0000_1111, 0, 0, 0, 0),
+                step(6, 2, 2, 0, 0, 3),
+                scan(2),
+                step(5, 0b0000_1001, 0, 0, 0, 0),
+                step(3, 0, 0, 0, 0, 0),
+                // The cut value, and the key from table 2.
+                step(5, 0b0011_0000, 0, 0, 0, 0),
+                step(7, 2, 1, 0, 0, 0),
+            ];
+            let sql = "SELECT k, sum(v) FROM (
+                SELECT u.c2 / 1000 AS v, t2.c3 AS k FROM (
+                    SELECT c0, c2 FROM t0 WHERE c1 < 50
+                    UNION ALL SELECT c0, c2 FROM t1 WHERE c1 >= 50) AS u
+                JOIN t2 ON u.c0 = t2.c0)
+                GROUP BY k";
+            (draft(tables, &steps), sql)
+        },
+    },
+];
+
+fn scan(table: u8) -> RawStep {
+    step(1, table, 0, 0, 0, 0)
+}
+
+fn draft(tables: Vec<RawTable>, steps: &[RawStep]) -> Draft {
+    Draft { tables, steps: steps.to_vec() }
+}
+
+/// Column 0: every key once, in an order of the table's own. Column 1: from 0
+/// to 99, rising. Column 2: large values with the label given. Column 3: eight
+/// keys. The others: values that differ.
+fn table(columns: usize, rows: usize, number: i64, label: u32) -> RawTable {
+    let mut cells = Vec::new();
+    for row in 0..rows as i64 {
+        for column in 0..columns as i64 {
+            cells.push(match column {
+                0 => ((row * (2 * number + 1) + 5 * number) % rows as i64, 0),
+                1 => (row * 100 / rows as i64, 0),
+                2 => (row * 7_919_113 + 1_000 * number + 17, label),
+                3 => ((row * 5 + number) % 8, 0),
+                _ => (row * 1_000 + column, 0),
+            });
+        }
+    }
+    RawTable { columns, cells }
+}

@@ -1,0 +1,222 @@
+//! The time of the product beside that of the reference implementation and of
+//! SQLite, for each kind of step and for a mixed plan, at three sizes.
+//!
+//!     rustc -O --edition 2021 -o bench tests/bench/main.rs \
+//!         -L native=DIRECTORY -l static=LIBRARY          (and libsqlite3-dev)
+//!     bench [MILLISECONDS]         for each row; 500 if not given
+//!     bench once ENGINE CASE ROWS COUNT
+//!     bench list
+//!
+//! Product and reference read the container, evaluate the plan and release.
+//! SQLite runs a prepared statement with the relational part of the plan over
+//! tables already in memory, without labels, and every value of the result is
+//! read. Times are the best of all runs. The results of the three are compared,
+//! as sets of rows, before anything is measured.
+//!
+//! `once` runs one engine (product, reference or sqlite) COUNT times on one
+//! case and prints nothing, so that callgrind can count its instructions:
+//! (count with COUNT = 30 minus count with COUNT = 10) / 20.
+//! `list` prints the cases and sizes, a line for each.
+//!
+//! With `--cfg reference_only` the reference stands in for the product, to try
+//! the benchmark itself.
+
+#![allow(unexpected_cfgs)]
+
+#[path = "../reference/lib.rs"]
+#[allow(dead_code, unused_imports)]
+mod reference;
+
+#[path = "../compare/draft.rs"]
+#[allow(dead_code)]
+mod draft;
+#[path = "../compare/lent.rs"]
+#[allow(dead_code)]
+mod lent;
+#[path = "../compare/product.rs"]
+#[allow(dead_code)]
+mod product;
+#[path = "../compare/rng.rs"]
+#[allow(dead_code)]
+mod rng;
+
+mod cases;
+mod sqlite;
+
+use cases::{Case, CASES, SIZES};
+use lent::{Lent, NEEDED};
+use sqlite::Query;
+use std::time::{Duration, Instant};
+
+const ENGINES: [&str; 3] = ["product", "reference", "sqlite"];
+
+fn main() {
+    let arguments: Vec<String> = std::env::args().skip(1).collect();
+    let words: Vec<&str> = arguments.iter().map(String::as_str).collect();
+    match words[..] {
+        [] => table(500),
+        ["once", engine, case, rows, count] => once(engine, case, parse(rows), parse(count)),
+        ["list"] => list(),
+        [time] => table(parse(time)),
+        _ => usage(),
+    }
+}
+
+fn usage() -> ! {
+    eprintln!("usage: bench [MILLISECONDS] | bench once ENGINE CASE ROWS COUNT | bench list");
+    std::process::exit(2)
+}
+
+fn parse(text: &str) -> usize {
+    text.parse().unwrap_or_else(|_| usage())
+}
+
+/// Reads an answer, so that no compiler leaves out the run that gave it.
+fn keep(answer: [u32; 3]) {
+    unsafe { std::ptr::read_volatile(&answer) };
+}
+
+/// One case at one size, ready to run with any engine.
+struct Bench {
+    container: Vec<u8>,
+    lent: Lent,
+    query: Query,
+    rows: Vec<i64>,
+}
+
+impl Bench {
+    fn new(case: &Case, size: usize) -> Bench {
+        let (draft, sql) = (case.make)(size);
+        let mut lent = Lent::default();
+        lent.fill(NEEDED, 1);
+        let query = Query::new(&draft.tables, sql);
+        Bench { container: draft.bytes(), lent, query, rows: vec![0; NEEDED[2]] }
+    }
+
+    /// Answers the number, rows and columns.
+    fn run(&mut self, engine: usize) -> [u32; 3] {
+        let answer = match engine {
+            0 => {
+                let mut answer = [0; product::RUN_ANSWER];
+                product::call_run(&self.container, &mut self.lent, &mut answer);
+                answer.map(|number| number as u32)
+            }
+            1 => {
+                let (values, labels, output, trace) = self.lent.slices();
+                reference::run(&self.container, values, labels, output, trace).numbers()
+            }
+            _ => {
+                let (rows, columns) = self.query.run(&mut self.rows);
+                [0, rows as u32, columns as u32, 0]
+            }
+        };
+        [answer[0], answer[1], answer[2]]
+    }
+
+    /// The rows that an engine gives, sorted.
+    fn result(&mut self, engine: usize) -> Vec<Vec<i64>> {
+        let [number, rows, columns] = self.run(engine);
+        assert_eq!(number, 0, "every plan here is released");
+        let (_, _, output, _) = self.lent.slices();
+        let from = if engine == 2 { &self.rows[..] } else { output };
+        let cells = from.chunks(columns as usize).take(rows as usize);
+        let mut sorted: Vec<Vec<i64>> = cells.map(|row| row.to_vec()).collect();
+        sorted.sort();
+        sorted
+    }
+
+    /// The best time of each engine, in microseconds. They take turns, so that
+    /// what else the machine does falls on all of them.
+    fn best(&mut self, time: Duration) -> [f64; 3] {
+        let begin = Instant::now();
+        let mut best = [f64::INFINITY; 3];
+        while begin.elapsed() < time {
+            for engine in 0..3 {
+                for _ in 0..4 {
+                    let start = Instant::now();
+                    keep(self.run(engine));
+                    best[engine] = best[engine].min(start.elapsed().as_secs_f64());
+                }
+            }
+        }
+        best.map(|seconds| seconds * 1e6)
+    }
+}
+
+fn once(engine: &str, case: &str, size: usize, count: usize) {
+    let found = CASES.iter().find(|known| known.name == case);
+    let number = ENGINES.iter().position(|known| *known == engine);
+    let (case, engine) = match (found, number) {
+        (Some(case), Some(engine)) => (case, engine),
+        _ => usage(),
+    };
+    let mut bench = Bench::new(case, size);
+    for _ in 0..count {
+        keep(bench.run(engine));
+    }
+}
+
+fn list() {
+    for case in &CASES {
+        for size in SIZES {
+            println!("{size} {}", case.name);
+        }
+    }
+}
+
+fn table(milliseconds: usize) {
+    let time = Duration::from_millis(milliseconds as u64);
+    println!("microseconds, best of all runs, {milliseconds} ms for each row");
+    println!(
+        "{:<16}{:>5}{:>8}{:>10}{:>11}{:>10}{:>12}{:>10}",
+        "plan", "rows", "bytes", "product", "reference", "sqlite", "/reference", "/sqlite"
+    );
+    let mut ratios: [Vec<f64>; 2] = Default::default();
+    let mut growth = Vec::new();
+    for case in &CASES {
+        let mut times = Vec::new();
+        for size in SIZES {
+            let mut bench = Bench::new(case, size);
+            let results = [0, 1, 2].map(|engine| bench.result(engine));
+            assert!(results[0] == results[1], "{}: product and reference differ", case.name);
+            assert!(results[1] == results[2], "{}: reference and SQLite differ", case.name);
+            let best = bench.best(time);
+            let ratio = [best[0] / best[1], best[0] / best[2]];
+            println!(
+                "{:<16}{:>5}{:>8}{:>10.2}{:>11.2}{:>10.2}{:>12.3}{:>10.3}",
+                case.name,
+                size,
+                bench.container.len(),
+                best[0],
+                best[1],
+                best[2],
+                ratio[0],
+                ratio[1]
+            );
+            ratios[0].push(ratio[0]);
+            ratios[1].push(ratio[1]);
+            times.push(best);
+        }
+        growth.push((case.name, times));
+    }
+    println!();
+    for (name, ratios) in ["reference", "sqlite"].iter().zip(&ratios) {
+        let mean = (ratios.iter().map(|ratio| ratio.ln()).sum::<f64>() / ratios.len() as f64).exp();
+        let worst = ratios.iter().fold(0.0, |worst: f64, &ratio| worst.max(ratio));
+        println!("product / {name}: geometric mean {mean:.3}, worst {worst:.3}");
+    }
+    println!();
+    println!("growth: the power of the rows by which the time grows, for {SIZES:?} rows");
+    println!("{:<16}{:>16}{:>16}{:>16}", "plan", ENGINES[0], ENGINES[1], ENGINES[2]);
+    for (name, times) in growth {
+        print!("{name:<16}");
+        for engine in 0..3 {
+            let power = |from: usize| {
+                let rows = SIZES[from + 1] as f64 / SIZES[from] as f64;
+                (times[from + 1][engine] / times[from][engine]).ln() / rows.ln()
+            };
+            print!("{:>16}", format!("{:.2} {:.2}", power(0), power(1)));
+        }
+        println!();
+    }
+}

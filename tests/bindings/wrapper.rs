@@ -1,0 +1,86 @@
+//! Tests of the Rust wrapper on the containers of a folder.
+//!
+//!     rustc --edition 2021 --test -L native=DIRECTORY -l static=cilunovay \
+//!         -o wrapper tests/bindings/wrapper.rs
+//!     CONTAINERS=crates/trials/data wrapper
+
+#[path = "../../bindings/rust/cilunovay.rs"]
+#[allow(dead_code)]
+mod cilunovay;
+
+use cilunovay::{check, InputFault, Kind, Line, Monitor, Refusal, Release, StateFault};
+
+fn containers() -> Vec<(String, Vec<u8>)> {
+    let folder = std::env::var("CONTAINERS").expect("CONTAINERS names a folder");
+    let files = std::fs::read_dir(folder).unwrap().map(|entry| entry.unwrap().path());
+    let mut all: Vec<(String, Vec<u8>)> =
+        files.map(|path| (path.display().to_string(), std::fs::read(path).unwrap())).collect();
+    all.sort();
+    assert!(!all.is_empty());
+    all
+}
+
+fn named(name: &str) -> Vec<u8> {
+    let folder = std::env::var("CONTAINERS").expect("CONTAINERS names a folder");
+    std::fs::read(std::path::Path::new(&folder).join(name)).unwrap()
+}
+
+fn line(kind: Kind, rows: u32, columns: u32, stages_left: u32) -> Line {
+    Line { kind, rows, columns, stages_left }
+}
+
+#[test]
+fn the_printed_case() {
+    let trace = vec![line(Kind::Scan, 2, 2, 2), line(Kind::Group, 1, 2, 0)];
+    let release = Release { rows: 1, columns: 2, values: vec![7, 8], trace };
+    assert_eq!(Monitor::new().run(&named("printed_case")), Ok(release));
+}
+
+#[test]
+fn the_printed_case_with_a_minimum_of_3() {
+    let refusal = Monitor::new().run(&named("printed_case_minimum_3")).unwrap_err();
+    assert_eq!(refusal.number(), 35);
+    assert_eq!(refusal.to_string(), "refused with 35 at step 2, row 0, column 1");
+    assert_eq!(refusal.trace(), [line(Kind::Scan, 2, 2, 2), line(Kind::Group, 1, 2, 1)]);
+}
+
+#[test]
+fn no_bytes_at_all() {
+    let refusal = check(&[]).unwrap_err();
+    assert_eq!((refusal.fault, refusal.offset), (InputFault::Container, 0));
+    assert_eq!(refusal.to_string(), "refused with 11 at byte 0");
+    assert_eq!(Monitor::new().run(&[]), Err(Refusal::Input(refusal)));
+}
+
+#[test]
+fn nothing_of_one_run_shows_in_the_next() {
+    let mut used = Monitor::new();
+    for (name, container) in containers() {
+        assert_eq!(used.run(&container), Monitor::new().run(&container), "{name}");
+    }
+}
+
+#[test]
+fn the_input_checks_are_those_of_a_run() {
+    for (name, container) in containers() {
+        let refused = match Monitor::new().run(&container) {
+            Err(Refusal::Input(refusal)) => Some(refusal),
+            _ => None,
+        };
+        assert_eq!(check(&container).err(), refused, "{name}");
+    }
+}
+
+#[test]
+fn every_number_occurs_and_is_the_fault_s() {
+    let mut seen: Vec<u32> = Vec::new();
+    for (_, container) in containers() {
+        if let Err(refusal) = Monitor::new().run(&container) {
+            seen.push(refusal.number());
+        }
+    }
+    seen.sort();
+    seen.dedup();
+    assert_eq!(seen, [11, 12, 13, 14, 15, 16, 17, 18, 19, 31, 32, 33, 34, 35, 36]);
+    assert_eq!((InputFault::Columns.number(), StateFault::Over.number()), (19, 36));
+}

@@ -1,0 +1,94 @@
+//! A container before it is written: tables and steps as raw fields.
+
+use crate::reference::steps::Step;
+
+#[derive(Clone)]
+pub struct Draft {
+    pub tables: Vec<RawTable>,
+    pub steps: Vec<RawStep>,
+}
+
+/// Cells row by row, each a value and a label word.
+#[derive(Clone)]
+pub struct RawTable {
+    pub columns: usize,
+    pub cells: Vec<(i64, u32)>,
+}
+
+#[derive(Clone, Copy, Default)]
+pub struct RawStep {
+    pub kind: u8,
+    pub a: u8,
+    pub b: u8,
+    pub c: u8,
+    pub d: u8,
+    pub zero: [u8; 3],
+    pub constant: i64,
+}
+
+pub fn step(kind: u8, a: u8, b: u8, c: u8, d: u8, constant: i64) -> RawStep {
+    RawStep { kind, a, b, c, d, zero: [0; 3], constant }
+}
+
+impl RawStep {
+    pub fn bytes(&self) -> [u8; 16] {
+        let mut bytes = [0; 16];
+        bytes[..5].copy_from_slice(&[self.kind, self.a, self.b, self.c, self.d]);
+        bytes[5..8].copy_from_slice(&self.zero);
+        bytes[8..].copy_from_slice(&self.constant.to_le_bytes());
+        bytes
+    }
+
+    pub fn read(&self) -> Option<Step> {
+        Step::read(&self.bytes())
+    }
+}
+
+impl RawTable {
+    pub fn rows(&self) -> usize {
+        self.cells.len() / self.columns
+    }
+
+    pub fn bytes(&self) -> Vec<u8> {
+        let mut bytes = vec![self.columns as u8, 0];
+        bytes.extend((self.rows() as u16).to_le_bytes());
+        for (value, label) in &self.cells {
+            bytes.extend(value.to_le_bytes());
+            bytes.extend(label.to_le_bytes());
+        }
+        bytes
+    }
+}
+
+impl Draft {
+    /// Part 0 is the plan, the others the tables.
+    pub fn parts(&self) -> Vec<Vec<u8>> {
+        let plan = self.steps.iter().flat_map(|step| step.bytes()).collect();
+        let mut parts = vec![plan];
+        parts.extend(self.tables.iter().map(|table| table.bytes()));
+        parts
+    }
+
+    pub fn bytes(&self) -> Vec<u8> {
+        assemble(&self.parts())
+    }
+
+    pub fn widths(&self) -> Vec<usize> {
+        self.tables.iter().map(|table| table.columns).collect()
+    }
+}
+
+/// A container with these parts and the directory they need.
+pub fn assemble(parts: &[Vec<u8>]) -> Vec<u8> {
+    let mut bytes = (parts.len() as u16).to_le_bytes().to_vec();
+    for (index, part) in parts.iter().enumerate() {
+        bytes.extend((part_offset(parts, index) as u32).to_le_bytes());
+        bytes.extend((part.len() as u32).to_le_bytes());
+    }
+    bytes.extend(parts.concat());
+    bytes
+}
+
+pub fn part_offset(parts: &[Vec<u8>], index: usize) -> usize {
+    2 + 8 * parts.len() + parts[..index].iter().map(|part| part.len()).sum::<usize>()
+}

@@ -1,0 +1,110 @@
+//! The slices lent to a run, filled with a known pattern, each with a margin
+//! after it that nothing may touch.
+
+use crate::rng::{mix, Rng};
+
+/// What a run needs of work values, work labels, output and trace.
+pub const NEEDED: [usize; 4] = [8_192, 8_192, 2_048, 256];
+pub const NAMES: [&str; 4] = ["work values", "work labels", "output", "trace"];
+const MARGIN: usize = 16;
+
+#[derive(Clone, Default)]
+pub struct Lent {
+    lengths: [usize; 4],
+    values: Vec<i64>,
+    labels: Vec<u32>,
+    output: Vec<i64>,
+    trace: Vec<u32>,
+}
+
+/// Longer than needed as a rule, sometimes of just the length needed.
+pub fn long_enough(rng: &mut Rng) -> [usize; 4] {
+    NEEDED.map(|needed| needed + if rng.chance(25) { 0 } else { 1 + rng.below(80) })
+}
+
+impl Lent {
+    /// Fills every slice anew, margins included; the pattern has no zeros.
+    pub fn fill(&mut self, lengths: [usize; 4], seed: u64) {
+        self.lengths = lengths;
+        let start = mix(seed);
+        let numbers = |count: usize, salt: u64| {
+            let mut state = start ^ salt;
+            (0..count + MARGIN).map(move |_| {
+                state = state
+                    .wrapping_mul(6_364_136_223_846_793_005)
+                    .wrapping_add(1_442_695_040_888_963_407);
+                state | 1 << 32 | 1
+            })
+        };
+        refill(&mut self.values, numbers(lengths[0], 1).map(|n| n as i64));
+        refill(&mut self.labels, numbers(lengths[1], 2).map(|n| (n >> 32) as u32));
+        refill(&mut self.output, numbers(lengths[2], 3).map(|n| n as i64));
+        refill(&mut self.trace, numbers(lengths[3], 4).map(|n| (n >> 32) as u32));
+    }
+
+    pub fn copy_from(&mut self, other: &Lent) {
+        self.lengths = other.lengths;
+        self.values.clone_from(&other.values);
+        self.labels.clone_from(&other.labels);
+        self.output.clone_from(&other.output);
+        self.trace.clone_from(&other.trace);
+    }
+
+    pub fn slices(&mut self) -> (&mut [i64], &mut [u32], &mut [i64], &mut [u32]) {
+        let [values, labels, output, trace] = self.lengths;
+        (
+            &mut self.values[..values],
+            &mut self.labels[..labels],
+            &mut self.output[..output],
+            &mut self.trace[..trace],
+        )
+    }
+
+    /// Where the contents first differ, margins included.
+    pub fn difference(&self, other: &Lent) -> Option<String> {
+        let places = [
+            first(&self.values, &other.values),
+            first(&self.labels, &other.labels),
+            first(&self.output, &other.output),
+            first(&self.trace, &other.trace),
+        ];
+        let found = places.iter().position(|place| place.is_some())?;
+        let (at, one, two) = places[found]?;
+        Some(format!("{} element {at}: {one} and {two}", NAMES[found]))
+    }
+
+    /// Document 01's last words on the slices, tested on their own: what a run
+    /// with this answer and this many trace lines may have changed.
+    pub fn breach(&self, before: &Lent, answer: [u32; 4], finished: usize) -> Option<String> {
+        let begun = answer[0] == 0 || answer[0] >= 31;
+        let cells = if answer[0] == 0 { (answer[1] * answer[2]) as usize } else { 0 };
+        let cleared = if begun { NEEDED[0] } else { 0 };
+        let lines = if begun { 4 * finished } else { 0 };
+        let zero = self.values[..cleared].iter().all(|&value| value == 0)
+            && self.labels[..cleared].iter().all(|&label| label == 0);
+        if !zero {
+            return Some("a work slice is not zero at the end".into());
+        }
+        let same = self.values[cleared..] == before.values[cleared..]
+            && self.labels[cleared..] == before.labels[cleared..]
+            && self.output[cells..] == before.output[cells..]
+            && self.trace[lines..] == before.trace[lines..];
+        if !same {
+            return Some("something changed that has to stay".into());
+        }
+        None
+    }
+}
+
+fn refill<T>(vector: &mut Vec<T>, contents: impl Iterator<Item = T>) {
+    vector.clear();
+    vector.extend(contents);
+}
+
+fn first<T: PartialEq + Copy + Into<i64>>(one: &[T], two: &[T]) -> Option<(usize, i64, i64)> {
+    if one == two {
+        return None;
+    }
+    let at = one.iter().zip(two).position(|(a, b)| a != b)?;
+    Some((at, one[at].into(), two[at].into()))
+}

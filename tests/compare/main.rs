@@ -1,0 +1,359 @@
+//! Compares the product with the reference implementation on generated
+//! containers.
+//!
+//!     rustc -O --edition 2021 -o compare tests/compare/main.rs \
+//!         -L native=DIRECTORY -l static=LIBRARY
+//!     compare SEED COUNT          COUNT containers from SEED
+//!     compare SEED COUNT INDEX    of these only the one numbered INDEX
+//!
+//! For each container: the answers are equal, and so is every element of the
+//! lent slices at the end, which begin with a known pattern and have a margin
+//! behind them; what may change has changed and nothing else; containers made
+//! to be refused are refused with the number and the place they were made for;
+//! two containers that differ only in locked cells give the same answer and the
+//! same contents; slices too short are refused with 1 and unchanged, those for
+//! the answer too; the product's input checks answer as the reference's do.
+//!
+//! Prints how often each class occurred. The exit status is 1 after a
+//! difference, or if some class never occurred (not asked for a single INDEX).
+//!
+//! With `--cfg reference_only` it is built without the product; see product.rs.
+
+#![allow(unexpected_cfgs)]
+
+#[path = "../reference/lib.rs"]
+#[allow(dead_code, unused_imports)]
+mod reference;
+
+mod answers;
+mod classes;
+mod damage;
+mod draft;
+mod generate;
+mod labels;
+mod lent;
+mod observe;
+mod product;
+mod rng;
+mod scenes;
+
+use classes::Classes;
+use damage::DAMAGES;
+use lent::{long_enough, Lent, NEEDED};
+use reference::container::{parse, Container};
+use reference::eval::evaluate;
+use rng::Rng;
+
+/// The number and the offset that a container was made for.
+type Expected = Option<(&'static str, u32, usize)>;
+
+fn main() {
+    let arguments: Vec<u64> =
+        std::env::args().skip(1).map(|text| text.parse().unwrap_or_else(|_| usage())).collect();
+    let (seed, count, only) = match arguments[..] {
+        [seed, count] => (seed, count, None),
+        [seed, count, only] => (seed, count, Some(only)),
+        _ => usage(),
+    };
+    let mut harness = Harness::default();
+    for index in 0..count {
+        if only.map_or(true, |only| only == index) {
+            harness.one(seed, index);
+        }
+        if harness.failures >= 10 {
+            break;
+        }
+    }
+    println!("seed {seed}: {} containers, {} runs compared", harness.containers, harness.runs);
+    let missing = harness.classes.print();
+    for name in &missing {
+        println!("class that never occurred: {name}");
+    }
+    println!("{} differences, {} classes missing", harness.failures, missing.len());
+    if harness.failures > 0 || (only.is_none() && !missing.is_empty()) {
+        std::process::exit(1);
+    }
+}
+
+fn usage() -> ! {
+    eprintln!("usage: compare SEED COUNT [INDEX]");
+    std::process::exit(2)
+}
+
+#[derive(Default)]
+struct Harness {
+    classes: Classes,
+    containers: u64,
+    runs: u64,
+    failures: u64,
+    before: Lent,
+    ours: Lent,
+    theirs: Lent,
+    pair: Lent,
+}
+
+impl Harness {
+    /// Makes the container with this index, and runs it.
+    fn one(&mut self, seed: u64, index: u64) {
+        let mut rng = Rng::new(rng::mix(seed) ^ index);
+        let draft = generate::valid(&mut rng);
+        let (bytes, expected) = match rng.below(100) {
+            0..=59 => (draft.bytes(), None),
+            60..=91 => near_valid(&mut rng, draft),
+            _ => (damaged(&mut rng, draft), None),
+        };
+        self.containers += 1;
+        let failed = self.compare(&mut rng, &bytes, expected);
+        if let Err(what) = failed {
+            self.failures += 1;
+            println!("seed {seed} index {index}: {what}");
+            let name = format!("compare-{seed}-{index}.bin");
+            let path = std::env::temp_dir().join(name);
+            if std::fs::write(&path, &bytes).is_ok() {
+                println!("    container written to {}", path.display());
+            }
+        }
+    }
+
+    fn compare(&mut self, rng: &mut Rng, bytes: &[u8], expected: Expected) -> Result<(), String> {
+        let pattern = rng.next();
+        let answer = self.both(bytes, long_enough(rng), pattern)?;
+        self.classes.hit(number_class(answer[0]));
+        if let Some((class, number, offset)) = expected {
+            if answer != [number, offset as u32, 0, 0] {
+                return Err(format!("{class}: {answer:?}, made for {number} at {offset}"));
+            }
+            self.classes.hit(class);
+        }
+        let checked = reference::check(bytes);
+        let expected = match checked {
+            Ok(()) => [0, 0],
+            Err(refusal) => [refusal.fault.number(), refusal.offset as u32],
+        };
+        let found = answers::check(bytes, pattern)?;
+        if found != expected {
+            return Err(format!("check: reference {expected:?}, product {found:?}"));
+        }
+        self.classes.hit(if found[0] == 0 { "check: accepted" } else { "check: refused" });
+        match (parse(bytes), checked) {
+            (Ok(container), Ok(())) => {
+                let finished = evaluate(&container).trace.len();
+                if let Some(what) = self.ours.breach(&self.before, answer, finished) {
+                    return Err(what);
+                }
+                let seen = observe::observe(bytes, &container, &mut self.classes);
+                self.locked(rng, bytes, &container, answer, seen.over)?;
+            }
+            (Err(one), Err(two)) if one == two && one.fault.number() == answer[0] => {
+                if let Some(what) = self.ours.breach(&self.before, answer, 0) {
+                    return Err(what);
+                }
+            }
+            _ => return Err("check and run differ".into()),
+        }
+        if rng.chance(10) {
+            self.short(rng, bytes, pattern, answer)?;
+        }
+        Ok(())
+    }
+
+    /// Runs product and reference on equal slices. `ours` and `theirs` hold
+    /// the contents at the end, `before` those at the beginning.
+    fn both(
+        &mut self,
+        bytes: &[u8],
+        lengths: [usize; 4],
+        pattern: u64,
+    ) -> Result<[u32; 4], String> {
+        self.runs += 1;
+        self.before.fill(lengths, pattern);
+        self.ours.copy_from(&self.before);
+        self.theirs.copy_from(&self.before);
+        let (values, labels, output, trace) = self.ours.slices();
+        let ours = reference::run(bytes, values, labels, output, trace).numbers();
+        let theirs = answers::run(bytes, &mut self.theirs, pattern)?;
+        if ours != theirs {
+            return Err(format!("answers: reference {ours:?}, product {theirs:?}"));
+        }
+        match self.ours.difference(&self.theirs) {
+            Some(what) => Err(format!("contents, reference and product: {what}")),
+            None => Ok(ours),
+        }
+    }
+
+    /// Demand 3: the same container with other values in its locked cells.
+    fn locked(
+        &mut self,
+        rng: &mut Rng,
+        bytes: &[u8],
+        container: &Container,
+        answer: [u32; 4],
+        over: bool,
+    ) -> Result<(), String> {
+        let cells = labels::locked_cells(bytes, container);
+        if cells.is_empty() {
+            self.classes.hit("no locked cell");
+            return Ok(());
+        }
+        let mut other = bytes.to_vec();
+        let all = rng.chance(70);
+        for &(offset, lock) in &cells {
+            if all || rng.chance(40) {
+                let value = generate::number(rng);
+                other[offset..offset + 8].copy_from_slice(&value.to_le_bytes());
+                let alone = (lock.h as u8, lock.t as u8, lock.a as u8, lock.n as u8);
+                match alone {
+                    (1, 0, 0, 0) => self.classes.hit("pair: locked by H alone"),
+                    (0, 1, 0, 0) => self.classes.hit("pair: locked by T alone"),
+                    (0, 0, 1, 0) => self.classes.hit("pair: locked by A alone"),
+                    (0, 0, 0, 1) => self.classes.hit("pair: locked by N alone"),
+                    _ => self.classes.hit("pair: locked by several stages"),
+                }
+            }
+        }
+        self.pair.copy_from(&self.before);
+        std::mem::swap(&mut self.pair, &mut self.ours);
+        // `pair` holds the first container's end, `before` the beginning.
+        self.runs += 1;
+        self.ours.copy_from(&self.before);
+        self.theirs.copy_from(&self.before);
+        let (values, labels, output, trace) = self.ours.slices();
+        let ours = reference::run(&other, values, labels, output, trace).numbers();
+        let theirs = answers::run(&other, &mut self.theirs, rng.next())?;
+        if ours != answer || theirs != answer {
+            return Err(format!("locked pair: {answer:?}, reference {ours:?}, product {theirs:?}"));
+        }
+        for lent in [&self.ours, &self.theirs] {
+            if let Some(what) = self.pair.difference(lent) {
+                return Err(format!("locked pair, contents: {what}"));
+            }
+        }
+        self.classes.hit(match answer[0] {
+            0 => "pair: released",
+            31 => "pair: refused with 31",
+            32 => "pair: refused with 32",
+            33 => "pair: refused with 33",
+            34 => "pair: refused with 34",
+            35 => "pair: refused with 35",
+            _ => "pair: refused with 36",
+        });
+        if let Ok(container) = parse(&other) {
+            let differs =
+                observe::observe(&other, &container, &mut Classes::default()).over != over;
+            self.classes.hit_if(differs, "pair: OVER made in one of the two");
+        }
+        Ok(())
+    }
+
+    /// Refusal 1, for each slice: one element short, and empty.
+    fn short(
+        &mut self,
+        rng: &mut Rng,
+        bytes: &[u8],
+        pattern: u64,
+        answer: [u32; 4],
+    ) -> Result<(), String> {
+        const CLASSES: [&str; 4] = ["1 work values", "1 work labels", "1 output", "1 trace"];
+        for slice in 0..4 {
+            let mut lengths = long_enough(rng);
+            lengths[slice] = match rng.below(4) {
+                0 => 0,
+                1 => rng.below(NEEDED[slice]),
+                _ => NEEDED[slice] - 1,
+            };
+            self.refused_short(bytes, lengths, pattern)?;
+            self.classes.hit(CLASSES[slice]);
+            self.classes.hit_if(lengths[slice] == 0, "1 with an empty slice");
+        }
+        self.refused_short(bytes, NEEDED.map(|needed| needed - 1), pattern)?;
+        self.refused_short(bytes, [0; 4], pattern)?;
+        self.classes.hit("1 all slices");
+        self.before.fill(NEEDED, pattern);
+        self.theirs.copy_from(&self.before);
+        answers::short_run(bytes, &mut self.theirs, pattern)?;
+        if let Some(what) = self.theirs.difference(&self.before) {
+            return Err(format!("answer too short: {what}"));
+        }
+        self.classes.hit("1 answer of a run");
+        answers::short_check(bytes, pattern)?;
+        self.classes.hit("1 answer of the input checks");
+        self.classes.hit_if((11..20).contains(&answer[0]), "1 before a refusal of the input");
+        if self.both(bytes, NEEDED, pattern)? != answer {
+            return Err("another answer with slices of just the length needed".into());
+        }
+        self.classes.hit("slices of just the length needed");
+        Ok(())
+    }
+
+    fn refused_short(
+        &mut self,
+        bytes: &[u8],
+        lengths: [usize; 4],
+        pattern: u64,
+    ) -> Result<(), String> {
+        let answer = self.both(bytes, lengths, pattern)?;
+        if answer != [1, 0, 0, 0] {
+            return Err(format!("slices {lengths:?}: {answer:?}"));
+        }
+        match self.ours.difference(&self.before) {
+            Some(what) => Err(format!("slices {lengths:?}: {what}")),
+            None => Ok(()),
+        }
+    }
+}
+
+fn near_valid(rng: &mut Rng, mut draft: draft::Draft) -> (Vec<u8>, Expected) {
+    while draft.bytes().len() > 60_000 {
+        draft = generate::valid(rng);
+    }
+    let (class, number, make) = DAMAGES[rng.below(DAMAGES.len())];
+    let (bytes, offset) = make(rng, draft);
+    (bytes, Some((class, number, offset)))
+}
+
+/// A container with a few bytes changed, cut, doubled or added anywhere.
+fn damaged(rng: &mut Rng, draft: draft::Draft) -> Vec<u8> {
+    let mut bytes = draft.bytes();
+    for _ in 0..1 + rng.below(4) {
+        let at = rng.below(bytes.len().max(1));
+        match rng.below(10) {
+            0 => bytes.truncate(at),
+            1 => bytes.insert(at, rng.next() as u8),
+            2 if at + 1 < bytes.len() => {
+                bytes.remove(at);
+            }
+            3 => bytes.extend_from_within(at..),
+            4 => bytes = (0..rng.below(200)).map(|_| rng.next() as u8).collect(),
+            // The plan and the directory are small beside the tables.
+            5..=7 if !bytes.is_empty() => {
+                let near = rng.below(bytes.len().min(200));
+                bytes[near] ^= 1 << rng.below(8);
+            }
+            _ if at < bytes.len() => bytes[at] = rng.next() as u8,
+            _ => (),
+        }
+    }
+    bytes
+}
+
+fn number_class(number: u32) -> &'static str {
+    match number {
+        0 => "answer: released",
+        11 => "answer: 11",
+        12 => "answer: 12",
+        13 => "answer: 13",
+        14 => "answer: 14",
+        15 => "answer: 15",
+        16 => "answer: 16",
+        17 => "answer: 17",
+        18 => "answer: 18",
+        19 => "answer: 19",
+        31 => "answer: 31",
+        32 => "answer: 32",
+        33 => "answer: 33",
+        34 => "answer: 34",
+        35 => "answer: 35",
+        36 => "answer: 36",
+        _ => "answer: no number of document 01",
+    }
+}

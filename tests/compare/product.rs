@@ -1,0 +1,92 @@
+//! The product, called as include/cilunovay.h declares it. This is the one
+//! place to change when the interface does.
+//!
+//! Built with `--cfg reference_only` there is no product: the reference takes
+//! its place, so that nothing is compared with anything else. That is of use
+//! only to tune the generator and its classes.
+
+use crate::lent::Lent;
+
+/// The elements that the answer of a run needs, and that of the input checks.
+pub const RUN_ANSWER: usize = 4;
+pub const CHECK_ANSWER: usize = 2;
+
+#[cfg(not(reference_only))]
+extern "C" {
+    fn cilunovay_run(
+        container: *const u8,
+        container_len: usize,
+        values: *mut i64,
+        values_len: usize,
+        labels: *mut u32,
+        labels_len: usize,
+        output: *mut i64,
+        output_len: usize,
+        trace: *mut u32,
+        trace_len: usize,
+        answer: *mut u64,
+        answer_len: usize,
+    ) -> u32;
+
+    fn cilunovay_check(
+        container: *const u8,
+        container_len: usize,
+        answer: *mut u64,
+        answer_len: usize,
+    ) -> u32;
+}
+
+/// Runs the product; answers what the function itself answers.
+#[cfg(not(reference_only))]
+pub fn call_run(container: &[u8], lent: &mut Lent, answer: &mut [u64]) -> u32 {
+    let (values, labels, output, trace) = lent.slices();
+    // Each pointer comes from a slice of the length given with it.
+    unsafe {
+        cilunovay_run(
+            container.as_ptr(),
+            container.len(),
+            values.as_mut_ptr(),
+            values.len(),
+            labels.as_mut_ptr(),
+            labels.len(),
+            output.as_mut_ptr(),
+            output.len(),
+            trace.as_mut_ptr(),
+            trace.len(),
+            answer.as_mut_ptr(),
+            answer.len(),
+        )
+    }
+}
+
+#[cfg(not(reference_only))]
+pub fn call_check(container: &[u8], answer: &mut [u64]) -> u32 {
+    // Each pointer comes from a slice of the length given with it.
+    unsafe {
+        cilunovay_check(container.as_ptr(), container.len(), answer.as_mut_ptr(), answer.len())
+    }
+}
+
+#[cfg(reference_only)]
+pub fn call_run(container: &[u8], lent: &mut Lent, answer: &mut [u64]) -> u32 {
+    if answer.len() < RUN_ANSWER {
+        return 1;
+    }
+    let (values, labels, output, trace) = lent.slices();
+    let numbers = crate::reference::run(container, values, labels, output, trace).numbers();
+    answer[..RUN_ANSWER].copy_from_slice(&numbers.map(u64::from));
+    numbers[0]
+}
+
+#[cfg(reference_only)]
+pub fn call_check(container: &[u8], answer: &mut [u64]) -> u32 {
+    if answer.len() < CHECK_ANSWER {
+        return 1;
+    }
+    let numbers = match crate::reference::check(container) {
+        Ok(()) => [0, 0],
+        Err(refusal) => [refusal.fault.number(), refusal.offset as u32],
+    };
+    answer[..CHECK_ANSWER].copy_from_slice(&numbers.map(u64::from));
+    numbers[0]
+}
