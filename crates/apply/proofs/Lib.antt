@@ -7,5 +7,4 @@ mod Meaning
 mod MovedDown
 mod Operands
 mod RowMade
-mod Upward
 pub mod Laws

@@ -18,12 +18,11 @@ use Rattle.plan.specs.Table.{Cell, Row, Table, blank, rowsOf}
 use Rattle.plan.specs.declared.Transform.{Transform}
 use Rattle.apply.proofs.Grids.{word-fits}
 use Rattle.apply.proofs.MovedDown.{rows-move, moved-down}
-use Rattle.apply.proofs.Upward.{then-written}
 use Rattle.memory.proofs.CellLaws.{cells-length, cells-get, kept-none, kept-then}
 use Rattle.memory.proofs.RowReads.{rowOf, row-cells, flat-append, flat-length}
 use Rattle.memory.proofs.Rows.{Wide, rows-wide, rows-more, rows-length}
 use Rattle.memory.proofs.Stacks.{table-same}
-use Rattle.memory.proofs.Written.{Written, nothing-written, as-long, below-written, read-below}
+use Rattle.memory.proofs.Written.{Written, nothing-written, as-long, below-written, read-below, then-written}
 use Rattle.plan.proofs.SenseShape.{each-map}
 
 -- each row made has a column more
@@ -110,7 +109,7 @@ module _ (at rows columns column : ℕ) (transform : Transform) (v₀ : List ℤ
             row-le = omega arith;
             from-is = omega (arith, s .from-is);
             to-is = omega (arith, s .to-is);
-            written = rw longer (then-written (s .written) (sym long) put (omega (arith, put .room, as-long (s .written))));
+            written = rw longer (then-written (s .written) (sym long) put);
             same = kept-then (s .same) (one .kept);
           }
 

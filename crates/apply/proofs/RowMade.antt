@@ -1,7 +1,7 @@
 -- The row that APPLY makes of a row in memory. Assumes nothing.
 use Prim.Native.Nat.{ℕ, _+_, _≤_, _<_}
 use mathlib.Core.Path.{_≡_, refl, sym, ap, ap₂, _∙_}
-use mathlib.Core.Bool.{true}
+use mathlib.Core.Bool.{Bool, true}
 use mathlib.Core.List.{List}
 use native.Mathlib.Omega.{arith}
 use lib.IntN.{ℤ, pos}
@@ -21,7 +21,7 @@ use Rattle.plan.specs.declared.Operand.the-variants.{Constant, Column}
 use Rattle.plan.specs.declared.Transform.{Transform}
 use Rattle.plan.specs.declared.Transform.the-variants.{Add, Sub, Cut, Band}
 use Rattle.value.specs.Arithmetic.{plus, minus, cut, band}
-use Rattle.memory.proofs.CellLaws.{cells-get, cells-length, cells-set, kept-set}
+use Rattle.memory.proofs.CellLaws.{cells-get, cells-length, cells-set, kept-set, AfterMove, written-up, kept-up}
 use Rattle.memory.proofs.Written.{one-written}
 
 module _ (v : List ℤ) (l : List ℕ) (from columns column : ℕ) (transform : Transform) (p : from + columns ≤ length v) (q : from + columns ≤ length l)
@@ -54,16 +54,17 @@ module _ (v : List ℤ) (l : List ℕ) (from columns column : ℕ) (transform : 
       λ i. record { value = value-made transform f i; label = afterT (label-in i) (transformCode transform) (digitsOf transform) }
 
   -- the row's cells are copied, and the new cell is stored behind them
-  pub row-made : (to : ℕ) (v₁ : List ℤ) (l₁ : List ℕ) (value : ℤ) (label : ℕ) → to + columns < 8192 → 8192 ≤ length v → 8192 ≤ length l → Put to (take columns (drop from (cellsOf v l))) v l v₁ l₁
+  pub row-made : (to : ℕ) {r : Bool} (v₁ : List ℤ) (l₁ : List ℕ) (value : ℤ) (label : ℕ) → from + columns ≤ to → to + columns < 8192 → 8192 ≤ length v → 8192 ≤ length l → AfterMove from to columns v l r v₁ l₁
       → value ≡ valueAt v from column transform → label ≡ afterT (getD l (from + column) 0) (transformCode transform) (digitsOf transform)
       → Put to (appliedRow column transform (rowAt (cellsOf v l) columns from) .cells) v l (set v₁ (to + columns) value) (set l₁ (to + columns) label)
   unfolding row
-  row-made to v₁ l₁ value label h vr lr copied ev el =
+  row-made to v₁ l₁ value label g h vr lr after ev el =
       let memory = cellsOf v l in
       let room = cells-length v l 8192 vr lr in
+      let copied = written-up v l from to columns g (omega arith) vr lr after in
       let done : length (take columns (drop from memory)) ≡ columns = length-take-le columns (drop from memory) (simp length-drop (omega (arith, cells-length v l (from + columns) p q))) in
       let cell : newCell transform (cellAt column row) row ≡ record { value = value; label = label } = cell-made ∙ (λ i. record { value = sym ev i; label = sym el i }) in
       record {
-        written = rw (cell, cells-set v₁ l₁ (to + columns) value label) (rw done at (one-written (copied .written) (record { value = value; label = label }) (omega (arith, done, room))));
-        kept = kept-set (to + columns) value label h (copied .kept);
+        written = rw (cell, cells-set v₁ l₁ (to + columns) value label) (rw done at (one-written copied (record { value = value; label = label }) (omega (arith, done, room))));
+        kept = kept-set (to + columns) value label h (kept-up v l from to columns g (omega arith) vr lr after);
       }

@@ -2,7 +2,7 @@
 ghost use mathlib.Core.Path.{_≡_};
 ghost use mathlib.Core.Bool.{true};
 ghost use Prim.Native.Nat.{_+_, _-_, _*_, _≤_, _<_};
-ghost use lib.ListN.{length, getD, take, drop};
+ghost use lib.ListN.{length, getD, drop};
 ghost use Rattle.label.specs.WellFormed.{wellFormed};
 ghost use Rattle.plan.specs.Widths.{operandFits, transformFits};
 ghost use Rattle.plan.specs.Apply.{appliedRow};
@@ -73,22 +73,9 @@ fn make_row(
 {
     let value = new_value(values, from, column, transform);
     let label = new_label(labels[from + column], transform);
-    copy_up(values, labels, from, to, columns);
+    memory::move_cells(values, labels, from, to, columns);
     values[to + columns] = value;
     labels[to + columns] = label;
-}
-
-// Copies `count` cells to a place past them.
-fn copy_up(values: &mut [i64], labels: &mut [u32], from: usize, to: usize, count: usize)
-    requires { ⌜ (from + count ≤ to) × (to + count ≤ 8192) × (8192 ≤ length (now values)) × (8192 ≤ length (now labels)) ⌝ }
-    ensures { λ r. ⌜ spec.Put to (take count (drop from (cellsOf (now (values .entry)) (now (labels .entry))))) (now (values .entry)) (now (labels .entry)) (now (values .exit)) (now (labels .exit)) ⌝ }
-{
-    let mut i = 0;
-    while i < count {
-        values[to + i] = values[from + i];
-        labels[to + i] = labels[from + i];
-        i += 1;
-    }
 }
 
 // The value of the new cell of the row whose first value stands at `from`.

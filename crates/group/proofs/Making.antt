@@ -6,7 +6,6 @@ use native.Mathlib.Nat.{mul-le-mul}
 use native.Mathlib.Omega.{arith}
 use lib.IntN.{ℤ}
 use lib.ListN.{length, getD, take, drop, length-append, length-map, drop-of-length-le}
-use lib.Seq.{take-add, take-at}
 use Rattle.group.specs.Made.{width, Source, Wrote, AllMade}
 use Rattle.group.specs.Members.{Inside, rowsIn, rowOf, chosen, leadersAfter, members}
 use Rattle.group.specs.declared.Grouping.{Grouping}
@@ -21,22 +20,10 @@ use Rattle.group.proofs.Leading.{row-of}
 use Rattle.memory.proofs.CellLaws.{cells-length, kept-none, kept-then}
 use Rattle.memory.proofs.Rows.{Wide, rows-length}
 use Rattle.memory.proofs.Stacks.{table-same}
-use Rattle.memory.proofs.Written.{Written, nothing-written, as-long, below-written, from-written, past-any}
+use Rattle.memory.proofs.Written.{Written, nothing-written, as-long, below-written, then-written}
 use Rattle.plan.proofs.SenseShape.{each-append, kept-length}
 
 -- ---- lists
-
--- more written, right after what was written
-then-written : {A : Type 0} {list done after more last : List A} {at : ℕ} → Written list at done after → Written after (at + length done) more last → Written list at (done ++ more) last
-then-written {A} {list} {done} {after} {more} {last} {at} v w =
-    let n : at + length (done ++ more) ≡ at + length done + length more = simp length-append (omega arith) in
-    let front : take (at + length done) after ≡ take at list ++ done
-    = take-add at (length done) after ∙ ap₂ _++_ (below-written v) (ap (take (length done)) (from-written v) ∙ take-at done _ (length done) refl) in
-    record {
-      room = omega (arith, n, w .room, as-long v);
-      is = w .is ∙ rw (front, past-any v (at + length done + length more) (omega arith), n)
-          (append-assoc (take at list) done (more ++ drop (at + length done + length more) list) ∙ ap (λ (l : List A). take at list ++ l) (sym (append-assoc done more (drop (at + length done + length more) list))));
-    }
 
 map-last : {A B : Type 0} (f : A → B) (xs : List A) (x : A) → map f (xs ++ (x ∷ [])) ≡ map f xs ++ (f x ∷ [])
 map-last f [] x = refl
@@ -139,7 +126,7 @@ module _ (g : Grouping) (values : List ℤ) (labels : List ℕ) where
                 ∙ sym (append-assoc (m .done) (group ∷ []) _);
             counted = simp length-append (omega (arith, m .counted));
             wide = rw (map-last rowOfGroup (m .done) group) (each-append (Wide (width g)) (map rowOfGroup (m .done)) (rowOfGroup group ∷ []) (m .wide) (group-wide, tt));
-            written = rw (map-last rowOfGroup (m .done) group, flat-last (map rowOfGroup (m .done)) (rowOfGroup group)) (then-written (m .written) (rw place at (w .written)));
+            written = rw (map-last rowOfGroup (m .done) group, flat-last (map rowOfGroup (m .done)) (rowOfGroup group)) (then-written (m .written) place (w .written));
             kept = kept-then (m .kept) (w .kept);
           }
         where

@@ -8,7 +8,6 @@ use native.Mathlib.Omega.{arith}
 use lib.IntN.{ℤ}
 use lib.ListN.{length, take, drop, length-append, length-drop, length-map}
 use lib.Seq.{length-take-le, take-at, drop-at, take-take}
-use borrow.Author.Tests.{le-leb}
 use Rattle.group.specs.Made.{width, Source, groupRows, AllMade, Replaced}
 use Rattle.group.specs.Members.{rowsIn}
 use Rattle.group.specs.declared.Grouping.{Grouping}
@@ -17,9 +16,9 @@ use Rattle.plan.specs.Group.{groupsAfter, groupRow}
 use Rattle.plan.specs.Sense.{Each}
 use Rattle.plan.specs.Table.{Cell, Row, rowsOf}
 use Rattle.group.proofs.Making.{flat-length}
-use Rattle.memory.proofs.CellLaws.{cells-moved, kept-moved, le-within}
+use Rattle.memory.proofs.CellLaws.{both-move, cells-moved, kept-moved}
 use Rattle.memory.proofs.Rows.{Wide, rows-flat, rows-length}
-use Rattle.memory.proofs.Written.{Written, as-long, below-written, from-written}
+use Rattle.memory.proofs.Written.{Moves, down, Written, as-long, below-written, from-written}
 use Rattle.plan.proofs.SenseShape.{groups-fewer}
 
 module _ {memory now : List Cell} (rows : List Row) (w at : ℕ) (written : Written memory 6144 (flat rows) now) (wide : Each (Wide w) rows) (h : at ≤ 6144) where
@@ -64,24 +63,26 @@ module _ (g : Grouping) (values : List ℤ) (labels : List ℕ) (source : Source
   pub cells-fit : count * width g ≤ 2048
   cells-fit = mul-le-mul few (source .narrow)
 
-  values-room : 6144 + count * width g ≤ length vs
-  values-room = omega (arith, cells-fit, m .wrote .kept .as-many-values, source .values-room)
+  low : g .at ≤ 6144
+  low = omega (arith, source .below)
 
-  labels-room : 6144 + count * width g ≤ length ls
-  labels-room = omega (arith, cells-fit, m .wrote .kept .as-many-labels, source .labels-room)
+  in-values : Moves 6144 (g .at) (count * width g) (length vs)
+  in-values = down low (omega (arith, cells-fit, m .wrote .kept .as-many-values, source .values-room))
+
+  in-labels : Moves 6144 (g .at) (count * width g) (length ls)
+  in-labels = down low (omega (arith, cells-fit, m .wrote .kept .as-many-labels, source .labels-room))
 
   pub moves-within : movesWithin vs ls 6144 (g .at) (count * width g) ≡ true
-  moves-within = rw (le-leb (g .at) 6144 (omega (arith, source .below)), le-within 6144 (count * width g) (length vs) values-room, le-within 6144 (count * width g) (length ls) labels-room)
+  moves-within = both-move vs ls in-values in-labels
 
   pub replaced : Replaced g values labels count (moved 6144 (g .at) (count * width g) vs) (moved 6144 (g .at) (count * width g) ls)
   replaced =
-      let at : g .at ≤ 6144 = omega (arith, source .below) in
       let cells : cellsOf (moved 6144 (g .at) (count * width g) vs) (moved 6144 (g .at) (count * width g) ls) ≡ moved 6144 (g .at) (length made * width g) (cellsOf vs ls)
-      = cells-moved vs ls 6144 (g .at) (count * width g) at values-room labels-room ∙ ap (λ (n : ℕ). moved 6144 (g .at) (n * width g) (cellsOf vs ls)) (m .counted) in
+      = cells-moved vs ls in-values in-labels ∙ ap (λ (n : ℕ). moved 6144 (g .at) (n * width g) (cellsOf vs ls)) (m .counted) in
       record {
         few = few;
-        rows = rw (cells, m .counted) (rows-down made (width g) (g .at) (m .wrote .written) (m .wide) at);
-        below = rw cells (below-down made (width g) (g .at) (m .wrote .written) (m .wide) at);
-        as-long = rw cells (as-long-down made (width g) (g .at) (m .wrote .written) (m .wide) at);
-        kept = kept-moved 6144 (g .at) (count * width g) at values-room labels-room (omega (arith, cells-fit, at)) (m .wrote .kept);
+        rows = rw (cells, m .counted) (rows-down made (width g) (g .at) (m .wrote .written) (m .wide) low);
+        below = rw cells (below-down made (width g) (g .at) (m .wrote .written) (m .wide) low);
+        as-long = rw cells (as-long-down made (width g) (g .at) (m .wrote .written) (m .wide) low);
+        kept = kept-moved in-values in-labels (omega (arith, cells-fit, low)) (m .wrote .kept);
       }

@@ -9,7 +9,7 @@ use lib.Dec.{ltb}
 use lib.IntN.{ℤ}
 use lib.ListN.{length, take, drop}
 use lib.Seq.{take-at, take-take}
-use borrow.Author.Tests.{le-leb, lt-ltb, le-ltb, ltb-true, ltb-false}
+use borrow.Author.Tests.{lt-ltb, le-ltb, ltb-true, ltb-false}
 use Rattle.join.specs.Ends.{Finished}
 use Rattle.join.specs.Pairs.{Sides, Grown, width, rowsIn, labelsIn, allRows}
 use Rattle.join.specs.declared.Side.{Side}
@@ -31,12 +31,12 @@ use Rattle.join.proofs.Above.{cells-same}
 use Rattle.join.proofs.Growing.{room, rows-in-wide}
 use Rattle.join.proofs.Joining.{rows-joined-wide}
 use Rattle.join.proofs.Meaning.{JoinFits, leftSide, rightSide, join-parts, join-verdict, made-is}
-use Rattle.memory.proofs.CellLaws.{cells-length, cells-moved, kept-moved, le-within}
+use Rattle.memory.proofs.CellLaws.{cells-length, both-move, cells-moved, kept-moved}
 use Rattle.memory.proofs.Finish.{says-is, refused-done, made-done}
 use Rattle.memory.proofs.RowReads.{flat-length}
 use Rattle.memory.proofs.Rows.{Wide, rows-flat}
 use Rattle.memory.proofs.Stacks.{fits-slot, to-ready, with-ready, stack-with}
-use Rattle.memory.proofs.Written.{Written, nothing-written, then-copied, as-long, from-written, below-written}
+use Rattle.memory.proofs.Written.{Moves, down, Written, nothing-written, then-copied, as-long, from-written, below-written}
 
 module _ (stack : Stack) (index : ℕ) (left right : Side) (vs : List ℤ) (ls : List ℕ) (sides : Sides (length vs) (length ls) left right) where
   abbrev all : List Row
@@ -76,13 +76,13 @@ module _ (stack : Stack) (index : ℕ) (left right : Side) (vs : List ℤ) (ls :
         let n = count * w in
         let slot : n ≤ 2048 = fits-slot count w h (sides .few) in
         let low : at ≤ 6144 = omega (arith, sides .left-below) in
-        let values-room : 6144 + n ≤ length us = omega (arith, g .kept .as-many-values, sides .values-room) in
-        let labels-room : 6144 + n ≤ length ks = omega (arith, g .kept .as-many-labels, sides .labels-room) in
-        let moves-is : moves ≡ true = e ∙ rw (le-leb at 6144 low, le-within 6144 n (length us) values-room, le-within 6144 n (length ks) labels-room) in
+        let in-values : Moves 6144 at n (length us) = down low (omega (arith, g .kept .as-many-values, sides .values-room)) in
+        let in-labels : Moves 6144 at n (length ks) = down low (omega (arith, g .kept .as-many-labels, sides .labels-room)) in
+        let moves-is : moves ≡ true = e ∙ both-move us ks in-values in-labels in
         let values-are : ws ≡ moved 6144 at n us = ev ∙ rw moves-is in
         let labels-are : ms ≡ moved 6144 at n ks = el ∙ rw moves-is in
         let memory = cellsOf us ks in
-        let cells : cellsOf ws ms ≡ moved 6144 at n memory = ap₂ cellsOf values-are labels-are ∙ cells-moved us ks 6144 at n low values-room labels-room in
+        let cells : cellsOf ws ms ≡ moved 6144 at n memory = ap₂ cellsOf values-are labels-are ∙ cells-moved us ks in-values in-labels in
         let long : length memory ≡ length (cellsOf vs ls) = as-long above in
         let copied : Written memory at (take n (drop 6144 memory)) (cellsOf ws ms) = rw cells (then-copied (nothing-written memory at (omega (arith, room vs ls sides))) 6144 at n (omega arith) low (omega (arith, room vs ls sides))) in
         let rows : take n (drop 6144 memory) ≡ flat all = ap (take n) (from-written above) ∙ take-at (flat all) _ n (flat-length w all all-wide ∙ ap (λ (m : ℕ). m * w) (sym total)) in
@@ -93,7 +93,7 @@ module _ (stack : Stack) (index : ℕ) (left right : Side) (vs : List ℤ) (ls :
             ap (rowsOf w (length all)) (from-written copied ∙ ap (λ (l : List Cell). l ++ drop (at + length (take n (drop 6144 memory))) memory) rows) ∙ rows-flat w all _ all-wide,
             below-written copied ∙ sym (take-take at 6144 memory low) ∙ ap (take at) (g .below) ∙ take-take at 6144 (cellsOf vs ls) low,
           );
-          kept = rw (values-are, labels-are) (kept-moved 6144 at n low values-room labels-room (omega arith) (g .kept));
+          kept = rw (values-are, labels-are) (kept-moved in-values in-labels (omega arith) (g .kept));
         }
 
 -- ---- the three ends of a join that fits

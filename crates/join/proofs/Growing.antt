@@ -16,12 +16,11 @@ use Rattle.plan.specs.Join.{matches}
 use Rattle.plan.specs.Sense.{Each}
 use Rattle.plan.specs.Table.{Cell, Row, blank, cellAt}
 use Rattle.value.specs.Comparison.{equal}
-use Rattle.join.proofs.Above.{then-written}
 use Rattle.memory.proofs.CellLaws.{cells-length, cells-get, kept-none, kept-then}
 use Rattle.memory.proofs.RowReads.{flat-append, flat-length}
 use Rattle.memory.proofs.Rows.{Wide, rows-wide}
 use Rattle.memory.proofs.Stacks.{fits-slot}
-use Rattle.memory.proofs.Written.{Written}
+use Rattle.memory.proofs.Written.{Written, as-long, then-written}
 use Rattle.value.proofs.Machine.{back, back-is}
 
 -- whether the keys of two rows in memory match
@@ -89,7 +88,7 @@ module _ {left right : Side} (vs : List ℤ) (ls : List ℕ) (sides : Sides (len
 
   pub then-made : {us ws : List ℤ} {ks ms : List ℕ} {made count total : ℕ} {new more : List Row} → Each (Wide (width left right)) new → Each (Wide (width left right)) more
       → Grown made left right new vs ls count us ks → count ≤ 256 → Grown count left right more us ks total ws ms → Grown made left right (new ++ more) vs ls total ws ms
-  then-made {us} {ks = ks} {made = made} {count} {new = new} {more} new-wide more-wide g h f =
+  then-made {us} {ws} {ks} {ms} {made} {count} {new = new} {more} new-wide more-wide g h f =
       let w = width left right in
       let sum : length (new ++ more) ≡ length new + length more = length-append new more in
       let now : count ≡ made + length new = omega (arith, g .counted) in
@@ -101,7 +100,8 @@ module _ {left right : Side} (vs : List ℤ) (ls : List ℕ) (sides : Sides (len
         put = λ m.
             let slot = fits-slot (count + length more) w (omega arith) (sides .few) in
             let first : Written memory (6144 + made * w) (flat new) (cellsOf us ks) = record { room = omega (arith, room); is = g .put (omega arith) } in
-            then-written first (flat more) (6144 + count * w) place (omega (arith, room)) (f .put (omega arith)) .is
+            let second : Written (cellsOf us ks) (6144 + count * w) (flat more) (cellsOf ws ms) = record { room = omega (arith, room, as-long first); is = f .put (omega arith) } in
+            then-written first place second .is
             ∙ ap (λ (x : List Cell). written (6144 + made * w) x memory) (sym (flat-append new more));
         below = f .below ∙ g .below;
         kept = kept-then (g .kept) (f .kept);

@@ -2,7 +2,7 @@
 ghost use mathlib.Core.Path.{_≡_};
 ghost use Prim.Native.Nat.{_+_, _-_, _*_, _≤_, _<_};
 ghost use lib.ListN.{length};
-ghost use Rattle.memory.specs.Cells.{cellsOf, moved, Kept};
+ghost use Rattle.memory.specs.Cells.{cellsOf, Kept};
 ghost use Rattle.join.specs.Pairs as spec;
 use crate::Side;
 use value::comparison::equal;
@@ -97,27 +97,13 @@ fn write_row(
     ensures { λ r. ⌜ Kept (now (values .entry)) (now (labels .entry)) (now (values .exit)) (now (labels .exit)) ⌝ }
 {
     let key = right.key;
-    copy_up(values, labels, at, to, left.columns);
-    copy_up(values, labels, other, to + left.columns, key);
-    copy_up(
+    memory::move_cells(values, labels, at, to, left.columns);
+    memory::move_cells(values, labels, other, to + left.columns, key);
+    memory::move_cells(
         values,
         labels,
         other + key + 1,
         to + left.columns + key,
         right.columns - key - 1,
     );
-}
-
-// Copies `count` cells to a place past them.
-fn copy_up(values: &mut [i64], labels: &mut [u32], from: usize, to: usize, count: usize)
-    requires { ⌜ (from + count ≤ to) × (to + count ≤ 8192) × (8192 ≤ length (now values)) × (8192 ≤ length (now labels)) ⌝ }
-    ensures { λ r. ⌜ cellsOf (now (values .exit)) (now (labels .exit)) ≡ moved from to count (cellsOf (now (values .entry)) (now (labels .entry))) ⌝ }
-    ensures { λ r. ⌜ Kept (now (values .entry)) (now (labels .entry)) (now (values .exit)) (now (labels .exit)) ⌝ }
-{
-    let mut i = 0;
-    while i < count {
-        values[to + i] = values[from + i];
-        labels[to + i] = labels[from + i];
-        i += 1;
-    }
 }

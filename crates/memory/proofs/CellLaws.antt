@@ -1,18 +1,18 @@
 -- The two slices as one list of cells. Assumes nothing.
 use Prim.Native.Nat.{ℕ, zero, suc, _+_, _-_, _≤_, _<_}
-use mathlib.Core.Path.{_≡_, refl, ap, ap₂, _∙_}
-use mathlib.Core.Bool.{true, and-eq-true-iff}
+use mathlib.Core.Path.{_≡_, refl, sym, ap, ap₂, _∙_}
+use mathlib.Core.Bool.{Bool, true, false, _&&_, _||_, cond, and-eq-true-iff, and-false, or-true}
 use mathlib.Core.List.{List, [], _∷_, _++_}
 use native.Mathlib.Nat.{le-of-suc-le-suc, not-suc-le-zero}
 use native.Mathlib.Omega.{arith}
 use lib.Dec.{leb}
 use lib.IntN.{ℤ}
-use lib.ListN.{length, getD, take, drop, set, length-set, length-append, length-take, length-drop}
+use lib.ListN.{length, getD, take, drop, set, length-set, length-take, length-drop}
 use lib.Seq.{drop-set-lt}
 use borrow.Author.Tests.{leb-true, le-leb}
-use Rattle.memory.specs.Cells.{cellsOf, moved, within, Kept}
+use Rattle.memory.specs.Cells.{cellsOf, moved, within, canMove, movesWithin, Kept}
 use Rattle.plan.specs.Table.{Cell, blank}
-use Rattle.memory.proofs.Written.{nothing-written, then-copied, past-any}
+use Rattle.memory.proofs.Written.{Moves, down, up, within-from, within-to, Written, part-moved, as-long, past-any}
 
 pub cell : ℤ → ℕ → Cell
 cell value label = record { value = value; label = label }
@@ -94,31 +94,89 @@ within-le from count n e =
 pub le-within : (from count n : ℕ) → from + count ≤ n → within from count n ≡ true
 le-within from count n h = rw (le-leb from n (omega arith), le-leb count (n - from) (omega arith))
 
+-- ---- moves
+
+module _ {from to count n : ℕ} where
+  pub can-move : Moves from to count n → canMove from to count n ≡ true
+  can-move (down h k) = rw (le-leb to from h, le-within from count n k, le-within to count n (omega arith))
+  can-move (up h k) = rw (le-leb (from + count) to h, or-true, le-within from count n (omega arith), le-within to count n k)
+
+  pub moves : canMove from to count n ≡ true → Moves from to count n
+  moves e =
+      let both = and-eq-true-iff ((leb to from || leb (from + count) to) && within from count n) (within to count n) .0 e in
+      let order = and-eq-true-iff (leb to from || leb (from + count) to) (within from count n) .0 (both .0) in
+      by-order (leb to from) refl (order .0) (within-le from count n (order .1)) (within-le to count n (both .1))
+    where
+      by-order : (t : Bool) → leb to from ≡ t → (t || leb (from + count) to) ≡ true → from + count ≤ n → to + count ≤ n → Moves from to count n
+      by-order true e o f g = down (leb-true to from e) f
+      by-order false e o f g = up (leb-true (from + count) to o) g
+
+-- for each of the two ways, the test of one of the two places is enough
+module _ (from to count n : ℕ) where
+  pub down-within : to ≤ from → canMove from to count n ≡ within from count n
+  down-within h = by-room (within from count n) refl
+    where
+      by-room : (t : Bool) → within from count n ≡ t → canMove from to count n ≡ within from count n
+      by-room true e = can-move (down h (within-le from count n e)) ∙ sym e
+      by-room false e = rw (le-leb to from h, e)
+
+  pub up-within : from + count ≤ to → canMove from to count n ≡ within to count n
+  up-within h = by-room (within to count n) refl
+    where
+      by-room : (t : Bool) → within to count n ≡ t → canMove from to count n ≡ within to count n
+      by-room true e = can-move (up h (within-le to count n e)) ∙ sym e
+      by-room false e = rw (e, and-false)
+
+-- a move that both slices have room for is made
+pub both-move : (vs : List ℤ) (ls : List ℕ) {from to count : ℕ} → Moves from to count (length vs) → Moves from to count (length ls) → movesWithin vs ls from to count ≡ true
+both-move vs ls v l = rw (can-move v, can-move l)
+
 -- values and labels moved alike are cells moved
-pub cells-moved : (vs : List ℤ) (ls : List ℕ) (from to count : ℕ) → to ≤ from → from + count ≤ length vs → from + count ≤ length ls
+pub cells-moved : (vs : List ℤ) (ls : List ℕ) {from to count : ℕ} → Moves from to count (length vs) → Moves from to count (length ls)
     → cellsOf (moved from to count vs) (moved from to count ls) ≡ moved from to count (cellsOf vs ls)
-cells-moved vs ls from to count h v l =
-    let front : length (take to vs) ≡ length (take to ls) = simp length-take (omega arith) in
-    let part : length (take count (drop from vs)) ≡ length (take count (drop from ls)) = simp (length-take, length-drop) (omega arith) in
+cells-moved vs ls {from} {to} {count} v l =
+    let front : length (take to vs) ≡ length (take to ls) = simp length-take (omega (arith, within-to v, within-to l)) in
+    let part : length (take count (drop from vs)) ≡ length (take count (drop from ls)) = simp (length-take, length-drop) (omega (arith, within-from v, within-from l)) in
     cells-append (take to vs) _ (take to ls) _ front
     ∙ ap₂ _++_ (cells-take to vs ls)
     (cells-append (take count (drop from vs)) _ (take count (drop from ls)) _ part
     ∙ ap₂ _++_ (cells-take count (drop from vs) (drop from ls) ∙ ap (take count) (cells-drop from vs ls)) (cells-drop (to + count) vs ls))
 
 -- a move within the first 8,192 elements
-pub kept-moved : {vs : List ℤ} {ls : List ℕ} {us : List ℤ} {ks : List ℕ} (from to count : ℕ) → to ≤ from → from + count ≤ length us → from + count ≤ length ks
-    → to + count ≤ 8192 → Kept vs ls us ks → Kept vs ls (moved from to count us) (moved from to count ks)
-kept-moved {us = us} {ks = ks} from to count h v l m k = record {
-  as-many-values = moved-length us v ∙ k .as-many-values;
-  as-many-labels = moved-length ks l ∙ k .as-many-labels;
+pub kept-moved : {vs : List ℤ} {ls : List ℕ} {us : List ℤ} {ks : List ℕ} {from to count : ℕ} → Moves from to count (length us) → Moves from to count (length ks) → to + count ≤ 8192 → Kept vs ls us ks
+    → Kept vs ls (moved from to count us) (moved from to count ks)
+kept-moved {us = us} {ks = ks} {from = from} {to} {count} v l m k = record {
+  as-many-values = as-long (part-moved us v) ∙ k .as-many-values;
+  as-many-labels = as-long (part-moved ks l) ∙ k .as-many-labels;
   values-past = moved-past us v ∙ k .values-past;
   labels-past = moved-past ks l ∙ k .labels-past;
 }
   where
-    moved-length : {A : Type 0} (l : List A) → from + count ≤ length l → length (moved from to count l) ≡ length l
-    moved-length l r = simp (length-append, length-take, length-drop) (omega arith)
-
-    moved-past : {A : Type 0} (l : List A) → from + count ≤ length l → drop 8192 (moved from to count l) ≡ drop 8192 l
+    moved-past : {A : Type 0} (l : List A) → Moves from to count (length l) → drop 8192 (moved from to count l) ≡ drop 8192 l
     moved-past l r =
-        let part : length (take count (drop from l)) ≡ count = simp (length-take, length-drop) (omega arith) in
-        past-any (then-copied (nothing-written l to (omega arith)) from to count (omega arith) h r) 8192 (omega arith)
+        let part : length (take count (drop from l)) ≡ count = simp (length-take, length-drop) (omega (arith, within-from r)) in
+        past-any (part-moved l r) 8192 (omega arith)
+
+-- what `move_cells` answers and leaves
+abbrev pub AfterMove : ℕ → ℕ → ℕ → List ℤ → List ℕ → Bool → List ℤ → List ℕ → Type 0
+AfterMove from to count vs ls r us ks = (r ≡ movesWithin vs ls from to count) × ((us ≡ cond r (moved from to count vs) vs) × (ks ≡ cond r (moved from to count ls) ls))
+
+-- cells moved to a place wholly past them, within the first 8,192
+module _ (vs : List ℤ) (ls : List ℕ) {us : List ℤ} {ks : List ℕ} {r : Bool} (from to count : ℕ) (h : from + count ≤ to) (m : to + count ≤ 8192) (v : 8192 ≤ length vs) (l : 8192 ≤ length ls)
+    (after : AfterMove from to count vs ls r us ks) where
+  in-values : Moves from to count (length vs)
+  in-values = up h (omega arith)
+
+  in-labels : Moves from to count (length ls)
+  in-labels = up h (omega arith)
+
+  made : r ≡ true
+  made = after .0 ∙ both-move vs ls in-values in-labels
+
+  pub written-up : Written (cellsOf vs ls) to (take count (drop from (cellsOf vs ls))) (cellsOf us ks)
+  written-up =
+      let in-cells : Moves from to count (length (cellsOf vs ls)) = up h (omega (arith, cells-length vs ls 8192 v l)) in
+      rw (after .1 .0, after .1 .1, made, cells-moved vs ls in-values in-labels) (part-moved (cellsOf vs ls) in-cells)
+
+  pub kept-up : Kept vs ls us ks
+  kept-up = rw (after .1 .0, after .1 .1, made) (kept-moved in-values in-labels m (kept-none vs ls))

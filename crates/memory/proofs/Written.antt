@@ -8,6 +8,20 @@ use native.Mathlib.Omega.{arith}
 use lib.ListN.{length, getD, take, drop, set, length-append, length-drop, take-append-drop}
 use lib.Seq.{length-take-le, take-suc, drop-cons, set-at, take-at, drop-at, getD-take, getD-drop, drop-drop}
 
+-- `count` elements of a list that long, copied to a place not after theirs or wholly past them
+pub data Moves (from to count long : ℕ) : Type 0 where
+  down : to ≤ from → from + count ≤ long → Moves from to count long
+  up : from + count ≤ to → to + count ≤ long → Moves from to count long
+
+module _ {from to count long : ℕ} where
+  pub within-from : Moves from to count long → from + count ≤ long
+  within-from (down h k) = k
+  within-from (up h k) = omega arith
+
+  pub within-to : Moves from to count long → to + count ≤ long
+  within-to (down h k) = omega arith
+  within-to (up h k) = k
+
 module _ {A : Type 0} where
   -- the list after `done` was written over it from `at` on
   pub record Written (list : List A) (at : ℕ) (done : List A) (after : List A) : Type 0 where
@@ -63,24 +77,6 @@ module _ {A : Type 0} where
         let e : k + (i - k) ≡ i = omega arith in
         rw (← e) (sym (getD-drop k after (i - k) d) ∙ ap (λ (l : List A). getD l (i - k) d) past-written ∙ getD-drop k list (i - k) d)
 
-  -- ---- a part copied to a place not after its own
-
-  part-length : (list : List A) (from i : ℕ) → from + i ≤ length list → length (take i (drop from list)) ≡ i
-  part-length list from i h = length-take-le i (drop from list) (simp length-drop (omega arith))
-
-  pub one-copied : {list after : List A} (from to i : ℕ) (d : A) → Written list to (take i (drop from list)) after → to ≤ from → from + i < length list
-      → Written list to (take (i + 1) (drop from list)) (set after (to + i) (getD after (from + i) d))
-  one-copied {list} {after} from to i d w h k =
-      let l : length (take i (drop from list)) ≡ i = part-length list from i (omega arith) in
-      let read : getD after (from + i) d ≡ getD (drop from list) i d = read-past w (from + i) d (omega arith) ∙ sym (getD-drop from list i d) in
-      let more : take (i + 1) (drop from list) ≡ take i (drop from list) ++ (getD (drop from list) i d ∷ [])
-      = ap (λ (n : ℕ). take n (drop from list)) (add-one i) ∙ take-suc (drop from list) i d (simp length-drop (omega arith)) in
-      rw (more, read) (rw l at (one-written w (getD (drop from list) i d) (omega arith)))
-
-  pub copied : {list after : List A} (from to count : ℕ) → Written list to (take count (drop from list)) after → from + count ≤ length list
-      → after ≡ take to list ++ (take count (drop from list) ++ drop (to + count) list)
-  copied {list} from to count w h = w .is ∙ ap (λ (n : ℕ). take to list ++ (take count (drop from list) ++ drop (to + n) list)) (part-length list from count h)
-
   -- what stands past what was written, from any place on
   pub past-any : {list done after : List A} {at : ℕ} → Written list at done after → (i : ℕ) → at + length done ≤ i → drop i after ≡ drop i list
   past-any {list} {done} {after} {at} w i h =
@@ -88,16 +84,52 @@ module _ {A : Type 0} where
       let e : k + (i - k) ≡ i = omega arith in
       rw (← e) (sym (drop-drop (i - k) k after) ∙ ap (drop (i - k)) (past-written w) ∙ drop-drop (i - k) k list)
 
+  -- more written, right behind what was written
+  pub then-written : {list done mid more after : List A} {at to : ℕ} → Written list at done mid → to ≡ at + length done → Written mid to more after → Written list at (done ++ more) after
+  then-written {list} {done} {mid} {more} {after} {at} {to} w e u =
+      let longer : at + length (done ++ more) ≡ to + length more = simp length-append (omega arith) in
+      let front-is : take to mid ≡ take at list ++ done = ap (take to) (parted w) ∙ take-at (take at list ++ done) _ to (before w ∙ sym e) in
+      record {
+        room = omega (arith, longer, u .room, as-long w);
+        is = u .is ∙ rw (front-is, past-any w (to + length more) (omega arith), longer)
+            (append-assoc (take at list) done (more ++ drop (to + length more) list) ∙ ap (λ (t : List A). take at list ++ t) (sym (append-assoc done more (drop (to + length more) list))));
+      }
+
+  -- ---- a part copied
+
+  part-length : (list : List A) (from i : ℕ) → from + i ≤ length list → length (take i (drop from list)) ≡ i
+  part-length list from i h = length-take-le i (drop from list) (simp length-drop (omega arith))
+
+  -- the element copied next is none that was written
+  not-yet-written : {list after : List A} {from to count : ℕ} → Moves from to count (length list) → (i : ℕ) (d : A) → i < count → Written list to (take i (drop from list)) after
+      → getD after (from + i) d ≡ getD list (from + i) d
+  not-yet-written {list} {from = from} (down h k) i d j w = read-past w (from + i) d (omega (arith, part-length list from i (omega arith)))
+  not-yet-written {from = from} (up h k) i d j w = read-below w (from + i) d (omega arith)
+
+  pub one-copied : {list after : List A} {from to count : ℕ} → Moves from to count (length list) → (i : ℕ) (d : A) → i < count → Written list to (take i (drop from list)) after
+      → Written list to (take (i + 1) (drop from list)) (set after (to + i) (getD after (from + i) d))
+  one-copied {list} {after} {from} {to} {count} m i d j w =
+      let l : length (take i (drop from list)) ≡ i = part-length list from i (omega (arith, within-from m)) in
+      let read : getD after (from + i) d ≡ getD (drop from list) i d = not-yet-written m i d j w ∙ sym (getD-drop from list i d) in
+      let more : take (i + 1) (drop from list) ≡ take i (drop from list) ++ (getD (drop from list) i d ∷ [])
+      = ap (λ (n : ℕ). take n (drop from list)) (add-one i) ∙ take-suc (drop from list) i d (simp length-drop (omega (arith, within-from m))) in
+      rw (more, read) (rw l at (one-written w (getD (drop from list) i d) (omega (arith, within-to m))))
+
+  pub copied : {list after : List A} (from to count : ℕ) → Written list to (take count (drop from list)) after → from + count ≤ length list
+      → after ≡ take to list ++ (take count (drop from list) ++ drop (to + count) list)
+  copied {list} from to count w h = w .is ∙ ap (λ (n : ℕ). take to list ++ (take count (drop from list) ++ drop (to + n) list)) (part-length list from count h)
+
+  -- a list with a part moved is that list with the part written over it
+  pub part-moved : (list : List A) {from to count : ℕ} → Moves from to count (length list)
+      → Written list to (take count (drop from list)) (take to list ++ (take count (drop from list) ++ drop (to + count) list))
+  part-moved list {from} {to} {count} m =
+      let l : length (take count (drop from list)) ≡ count = part-length list from count (within-from m) in
+      record { room = omega (arith, within-to m); is = rw l }
+
   -- more written, copied from a place at or past the end of what was written
   pub then-copied : {list done after : List A} {at : ℕ} → Written list at done after → (from to count : ℕ) → to ≡ at + length done → to ≤ from → from + count ≤ length list
       → Written list at (done ++ take count (drop from list)) (take to after ++ (take count (drop from after) ++ drop (to + count) after))
   then-copied {list} {done} {after} {at} w from to count e h k =
-      let X = take count (drop from list) in
-      let l : length X ≡ count = part-length list from count k in
-      let longer : at + length (done ++ X) ≡ to + count = simp length-append (omega arith) in
-      let front-is : take to after ≡ take at list ++ done = ap (take to) (parted w) ∙ take-at (take at list ++ done) _ to (before w ∙ sym e) in
-      record {
-        room = omega (arith, longer);
-        is = rw (front-is, past-any w from (omega arith), past-any w (to + count) (omega arith), longer)
-            (append-assoc (take at list) done (X ++ drop (to + count) list) ∙ ap (λ (t : List A). take at list ++ t) (sym (append-assoc done X (drop (to + count) list))));
-      }
+      let same : drop from after ≡ drop from list = past-any w from (omega arith) in
+      let m : Moves from to count (length after) = down h (omega (arith, as-long w)) in
+      rw (← same) (then-written w e (part-moved after m))

@@ -1,7 +1,7 @@
 -- The two lent slices, values and labels, as one list of cells.
 use Prim.Native.Nat.{ℕ, zero, suc, _+_, _-_}
 use mathlib.Core.Path.{_≡_}
-use mathlib.Core.Bool.{Bool, _&&_}
+use mathlib.Core.Bool.{Bool, _&&_, _||_}
 use mathlib.Core.List.{List, [], _∷_, _++_}
 use lib.Dec.{leb}
 use lib.IntN.{ℤ}
@@ -24,7 +24,7 @@ abbrev pub gridOf : ℕ → ℕ → List ℕ → List (List ℕ)
 gridOf columns zero labels = []
 gridOf columns (suc rows) labels = take columns labels ∷ gridOf columns rows (drop columns labels)
 
--- `count` elements from a place on, copied to a place before it
+-- `count` elements from a place on, copied to another place
 abbrev pub moved : {A : Type 0} → ℕ → ℕ → ℕ → List A → List A
 moved from to count list = take to list ++ (take count (drop from list) ++ drop (to + count) list)
 
@@ -32,9 +32,13 @@ moved from to count list = take to list ++ (take count (drop from list) ++ drop 
 abbrev pub within : ℕ → ℕ → ℕ → Bool
 within from count length = leb from length && leb count (length - from)
 
--- a move within both slices, to a place not after
+-- elements of a list that long can be copied within it, first to last, to a place not after theirs or wholly past them
+abbrev pub canMove : ℕ → ℕ → ℕ → ℕ → Bool
+canMove from to count length = (leb to from || leb (from + count) to) && within from count length && within to count length
+
+-- such a move within both slices
 abbrev pub movesWithin : List ℤ → List ℕ → ℕ → ℕ → ℕ → Bool
-movesWithin values labels from to count = leb to from && within from count (length values) && within from count (length labels)
+movesWithin values labels from to count = canMove from to count (length values) && canMove from to count (length labels)
 
 -- What a step leaves of the slices whatever it answers: their lengths, and everything past the first 8,192 elements. The elements before
 -- those that no live table uses are free: a step may leave anything there.

@@ -3,7 +3,8 @@ ghost use mathlib.Core.Path.{_≡_};
 ghost use mathlib.Core.Bool.{cond};
 ghost use Rattle.memory.specs.Cells as spec;
 
-// Copies `count` cells to a place not after theirs, and answers true. Where they do not lie within both slices it changes nothing.
+// Copies `count` cells to a place not after theirs, or wholly past them, and answers true. For any other place, or where the cells or the
+// place are not within both slices, it changes nothing and answers false.
 pub fn move_cells(
     values: &mut [i64],
     labels: &mut [u32],
@@ -15,13 +16,10 @@ pub fn move_cells(
     ensures { λ r. ⌜ now (values .exit) ≡ cond r (spec.moved from to count (now (values .entry))) (now (values .entry)) ⌝ }
     ensures { λ r. ⌜ now (labels .exit) ≡ cond r (spec.moved from to count (now (labels .entry))) (now (labels .entry)) ⌝ }
 {
-    if from < to {
+    if !can_move(from, to, count, values.len()) {
         return false;
     }
-    if !within(from, count, values.len()) {
-        return false;
-    }
-    if !within(from, count, labels.len()) {
+    if !can_move(from, to, count, labels.len()) {
         return false;
     }
     let mut i = 0;
@@ -31,6 +29,19 @@ pub fn move_cells(
         i += 1;
     }
     true
+}
+
+// Whether `count` elements of a slice of that length can be copied so, first to last.
+fn can_move(from: usize, to: usize, count: usize, length: usize) -> bool
+    ensures { λ r. ⌜ r ≡ spec.canMove from to count length ⌝ }
+{
+    if from < to {
+        if to - from < count {
+            return false;
+        }
+        return within(to, count, length);
+    }
+    within(from, count, length)
 }
 
 // Whether `count` elements from a place on lie within a slice of that length.

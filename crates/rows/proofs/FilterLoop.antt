@@ -8,7 +8,7 @@ use native.Mathlib.Numerals.{add-one}
 use native.Mathlib.Omega.{arith}
 use lib.IntN.{ℤ, pos}
 use lib.ListN.{length, getD, take, drop, length-append, length-drop}
-use borrow.Author.Tests.{le-leb, ltb-true}
+use borrow.Author.Tests.{ltb-true}
 use Rattle.memory.specs.Cells.{cellsOf, flat, moved, movesWithin, Kept}
 use Rattle.plan.specs.Filter.{holds, passes, passing}
 use Rattle.plan.specs.Operands.{operandValue}
@@ -18,11 +18,11 @@ use Rattle.plan.specs.declared.Comparison.{Comparison}
 use Rattle.plan.specs.declared.Operand.{Operand}
 use Rattle.plan.specs.declared.Operand.the-variants.{Constant, Column}
 use Rattle.rows.specs.Filtering.{operandAt}
-use Rattle.memory.proofs.CellLaws.{cells-length, cells-moved, kept-none, kept-moved, le-within}
+use Rattle.memory.proofs.CellLaws.{cells-length, both-move, cells-moved, kept-none, kept-moved}
 use Rattle.memory.proofs.RowReads.{rowOf, row-cells, cell-of, value-of, flat-append, flat-length}
 use Rattle.memory.proofs.Rows.{rows-wide, rows-more}
 use Rattle.memory.proofs.TopTable.{Inside}
-use Rattle.memory.proofs.Written.{Written, nothing-written, read-past, then-copied}
+use Rattle.memory.proofs.Written.{Moves, down, Written, nothing-written, read-past, then-copied}
 use Rattle.rows.proofs.RowLaws.{passing-append, passing-wide}
 
 module _ (pass : Row → Bool) (at rows columns : ℕ) (v₀ : List ℤ) (l₀ : List ℕ) where
@@ -109,8 +109,14 @@ module _ (pass : Row → Bool) (at rows columns : ℕ) (v₀ : List ℤ) (l₀ :
       pub places : (to + columns ≤ 8192) × (from + columns ≤ 8192) × (kept ≤ 256) × (row ≤ 256)
       places = (omega (arith, s .from-is, not-after, inside, i .in-memory), omega (arith, s .from-is, inside, i .in-memory), omega (arith, s .kept-le, i .few-rows), omega (arith, i .few-rows))
 
+      in-values : Moves from to columns (length v)
+      in-values = down not-after values-reach
+
+      in-labels : Moves from to columns (length l)
+      in-labels = down not-after labels-reach
+
       pub row-moves : movesWithin v l from to columns ≡ true
-      row-moves = rw (le-leb to from not-after, le-within from columns (length v) values-reach, le-within from columns (length l) labels-reach)
+      row-moves = both-move v l in-values in-labels
 
       pub row-kept : pass (rowOf (cellsOf v₀ l₀) at columns row) ≡ true → Filtering (moved from to columns v) (moved from to columns l) (kept + 1) (from + columns) (to + columns) (row + 1)
       row-kept e =
@@ -126,9 +132,9 @@ module _ (pass : Row → Bool) (at rows columns : ℕ) (v₀ : List ℤ) (l₀ :
             kept-is = ap (λ (n : ℕ). n + 1) (s .kept-is) ∙ sym (ap length one ∙ length-append (keptOf row) (rowOf m at columns row ∷ []));
             kept-le = omega (arith, s .kept-le);
             to-is = omega (arith, s .to-is);
-            written = rw (longer, cells-moved v l from to columns not-after values-reach labels-reach)
+            written = rw (longer, cells-moved v l in-values in-labels)
                 (then-copied (s .written) from to columns (omega (arith, s .to-is, wide)) not-after (omega (arith, s .from-is, inside, memory-length)));
-            same = kept-moved from to columns not-after values-reach labels-reach (omega (arith, s .from-is, not-after, inside, i .in-memory)) (s .same);
+            same = kept-moved in-values in-labels (omega (arith, s .from-is, not-after, inside, i .in-memory)) (s .same);
           }
 
     pub filter-ends : {v : List ℤ} {l : List ℕ} {kept from to row : ℕ} → Filtering v l kept from to row → rows ≤ row → row ≡ rows

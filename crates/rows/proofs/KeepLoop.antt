@@ -2,13 +2,13 @@
 use Prim.Native.Nat.{ℕ, zero, suc, _+_, _*_, _≤_, _<_}
 use mathlib.Core.Path.{_≡_, refl, sym, ap, ap₂, subst, _∙_}
 use mathlib.Core.Bool.{Bool, true, false, cond}
-use mathlib.Core.List.{List, [], _∷_, _++_, map, map-append, append-assoc, append-nil}
+use mathlib.Core.List.{List, [], _∷_, _++_, map, map-append, append-nil}
 use native.Mathlib.Nat.{mul-le-mul-right}
 use native.Mathlib.Numerals.{add-one}
 use native.Mathlib.Omega.{arith}
 use lib.IntN.{ℤ, pos}
 use lib.ListN.{length, getD, take, drop, set, length-append, length-set, length-map}
-use lib.Seq.{length-take-le, take-at, getD-take, getD-drop}
+use lib.Seq.{getD-take, getD-drop}
 use Rattle.label.specs.Stages.{one}
 use Rattle.label.specs.Word.{bitAt}
 use Rattle.memory.specs.Cells.{cellsOf, flat, Kept}
@@ -20,7 +20,7 @@ use Rattle.memory.proofs.CellLaws.{cells-length, cells-get, cells-set, kept-non
 use Rattle.memory.proofs.RowReads.{row-cells, flat-append, flat-length}
 use Rattle.memory.proofs.Rows.{Wide, rows-more, rows-length}
 use Rattle.memory.proofs.TopTable.{Inside}
-use Rattle.memory.proofs.Written.{Written, nothing-written, one-written, as-long, read-past, past-any}
+use Rattle.memory.proofs.Written.{Written, nothing-written, one-written, read-past, past-any, then-written}
 
 -- ---- how many cells are kept
 
@@ -126,21 +126,6 @@ row-ends mask from to columns v₀ l₀ {v} {l} e i = record {
 
 -- ---- the rows
 
--- more written behind what was written
-then-written : {A : Type 0} {list done after more last : List A} {at : ℕ} → Written list at done after → Written after (at + length done) more last → Written list at (done ++ more) last
-then-written {A} {list} {done} {after} {more} {last} {at} w u =
-    let to = at + length done in
-    let long = length-append done more in
-    let parted : after ≡ (take at list ++ done) ++ drop to list = w .is ∙ sym (append-assoc (take at list) done (drop to list)) in
-    let front-long : length (take at list ++ done) ≡ to = length-append (take at list) done ∙ ap (λ (n : ℕ). n + length done) (length-take-le at list (omega (arith, w .room))) in
-    let front : take to after ≡ take at list ++ done = ap (take to) parted ∙ take-at (take at list ++ done) (drop to list) to front-long in
-    let e : to + length more ≡ at + length (done ++ more) = omega (arith, long) in
-    record {
-      room = omega (arith, long, u .room, as-long w);
-      is = u .is ∙ ap₂ (λ (f g : List A). f ++ (more ++ g)) front (past-any w (to + length more) (omega arith) ∙ ap (λ (n : ℕ). drop n list) e)
-          ∙ append-assoc (take at list) done _ ∙ ap (λ (t : List A). take at list ++ t) (sym (append-assoc done more _));
-    }
-
 pub record KeepingRows (mask at rows columns : ℕ) (v₀ : List ℤ) (l₀ : List ℕ) (v : List ℤ) (l : List ℕ) (from to row : ℕ) : Type 0 where
   pub row-le : row ≤ rows
   pub from-is : from ≡ at + row * columns
@@ -190,6 +175,6 @@ module _ (mask at rows columns : ℕ) (v₀ : List ℤ) (l₀ : List ℕ) (insid
           from-is = omega (arith, i .from-is);
           to-is = omega (arith, k .ended, i .to-is);
           to-le = omega (arith, k .ended, i .to-le, count-below mask columns);
-          written = rw more (then-written (i .written) (rw (sym long) at (k .written)));
+          written = rw more (then-written (i .written) (sym long) (k .written));
           same = kept-then (i .same) (k .kept);
         }

@@ -9,8 +9,8 @@ use native.Mathlib.Omega.{arith}
 use lib.Dec.{ltb}
 use lib.IntN.{ℤ}
 use lib.ListN.{length, getD, take, drop, length-append, length-drop, take-append-drop}
-use lib.Seq.{length-take-le, take-add, drop-drop}
-use borrow.Author.Tests.{leb-true, le-leb, lt-ltb, le-ltb, eqb-true}
+use lib.Seq.{length-take-le, drop-drop}
+use borrow.Author.Tests.{leb-true, lt-ltb, le-ltb, eqb-true}
 use Rattle.memory.specs.Cells.{cellsOf, flat, moved, movesWithin}
 use Rattle.memory.specs.Stack.{slot, tableAt, tablesTo, stackOf, widthsTo, withTable}
 use Rattle.memory.specs.Steps.{verdict, fits, widthsOf, Done}
@@ -23,13 +23,13 @@ use Rattle.plan.specs.Union.{united}
 use Rattle.plan.specs.Verdict.{refuseIf}
 use Rattle.plan.specs.Widths.{enoughTables, columnsExist}
 use Rattle.plan.specs.declared.Step.the-variants.{Union}
-use Rattle.memory.proofs.CellLaws.{cells-length, cells-moved, kept-none, kept-moved, le-within}
+use Rattle.memory.proofs.CellLaws.{cells-length, both-move, cells-moved, kept-none, kept-moved}
 use Rattle.memory.proofs.Finish.{refused-done, written-done}
 use Rattle.memory.proofs.RowReads.{flat-append, flat-rows}
 use Rattle.memory.proofs.Rows.{Wide, rows-wide, rows-length}
 use Rattle.memory.proofs.Stacks.{Ready}
 use Rattle.memory.proofs.TopTable.{fits-parts}
-use Rattle.memory.proofs.Written.{Written, then-copied}
+use Rattle.memory.proofs.Written.{Moves, down, Written, then-copied}
 
 -- what a union that fits finds: the left table in slot `depth - 2`, the right one above it
 pub record UnionFits (values labels : ℕ) (stack : Stack) : Type 0 where
@@ -141,17 +141,18 @@ module _ (tables : List Table) (v : List ℤ) (l : List ℕ) (stack : Stack) (f 
         let ready = f .is-ready in
         let reach : from + count ≤ 8192 = omega (arith, f) in
         let lower : to ≤ from = omega (arith, f) in
-        let within : movesWithin v l from to count ≡ true
-        = rw (le-leb to from lower, le-within from count (length v) (omega (arith, reach, ready .values-room)), le-within from count (length l) (omega (arith, reach, ready .labels-room))) in
+        let in-values : Moves from to count (length v) = down lower (omega (arith, reach, ready .values-room)) in
+        let in-labels : Moves from to count (length l) = down lower (omega (arith, reach, ready .labels-room)) in
+        let within : movesWithin v l from to count ≡ true = both-move v l in-values in-labels in
         let values-are : v′ ≡ moved from to count v = ev ∙ rw (e ∙ within) in
         let labels-are : l′ ≡ moved from to count l = el ∙ rw (e ∙ within) in
         let cells-are : cellsOf v′ l′ ≡ moved from to count m
-        = ap₂ cellsOf values-are labels-are ∙ cells-moved v l from to count lower (omega (arith, reach, ready .values-room)) (omega (arith, reach, ready .labels-room)) in
+        = ap₂ cellsOf values-are labels-are ∙ cells-moved v l in-values in-labels in
         let part : length (take (above * columns) (drop (slot left) m)) ≡ above * columns = length-take-le (above * columns) (drop (slot left) m) (simp length-drop (omega (arith, room, f))) in
         let copied = then-copied (itself m (slot left) (above * columns) (omega (arith, room, f))) from to count (omega (arith, part)) lower (omega (arith, reach, room)) in
         let cells : flat (leftRows ++ rightRows) ≡ take (above * columns) (drop (slot left) m) ++ take count (drop from m)
         = flat-append leftRows rightRows ∙ ap₂ _++_ (flat-rows columns above (drop (slot left) m)) (flat-rows columns below (drop from m)) in
-        let kept = kept-moved from to count lower (omega (arith, reach, ready .values-room)) (omega (arith, reach, ready .labels-room)) (omega (arith, reach, lower)) (kept-none v l) in
+        let kept = kept-moved in-values in-labels (omega (arith, reach, lower)) (kept-none v l) in
         written-done Union tables v l stack t left columns (above + below) (leftRows ++ rightRows) after v′ l′ ready
         (union-verdict ∙ rw (le-ltb 256 (above + below) h)) (omega (arith, f)) (omega (arith, f)) made-is (f .narrow) h (sym rows-made)
         (each-append (Wide columns) leftRows rightRows (rows-wide columns above (drop (slot left) m) (simp length-drop (omega (arith, room, f)))) (rows-wide columns below (drop from m) (simp length-drop (omega (arith, room, reach)))))

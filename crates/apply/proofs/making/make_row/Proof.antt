@@ -28,8 +28,8 @@ slice-read-new-label c = search needs
 new-label-requires : tie.Need-new-label-requires
 new-label-requires c κs = search needs
 
-copy-up-requires : tie.Need-copy-up-requires
-copy-up-requires c κs = search needs
+move-cells-requires : tie.Need-move-cells-requires
+move-cells-requires c κs = search needs
 
 add-value : tie.Need-add-value
 add-value c = search needs
@@ -60,8 +60,8 @@ returns c =
     let a = c .before .before .before .before .before .before .before .before .before .before .before .args in
     let p = c .before .before .before .before .before .before .before .before .before .before .before .pre in
     rw (back-is _ (c .before .before .before .before .before .before .before .before .new-value .ok))
-    (row-made (now (a .values)) (now (a .labels)) (a .from) (a .columns) (a .column) (a .transform) (omega (arith, p .0)) (omega (arith, p .0)) (p .1 .0) (p .1 .1) (a .to) _ _ _ _ (p .0 .1) (p .0 .2) (p .0 .3)
-    (c .before .before .before .copy-up .ensures) (c .before .before .before .before .before .before .before .before .new-value .ensures) (c .before .before .before .before .before .before .new-label .ensures))
+    (row-made (now (a .values)) (now (a .labels)) (a .from) (a .columns) (a .column) (a .transform) (omega (arith, p .0)) (omega (arith, p .0)) (p .1 .0) (p .1 .1) (a .to) _ _ _ _ (p .0 .0) (p .0 .1) (p .0 .2) (p .0 .3)
+    (c .before .before .before .move-cells .ensures) (c .before .before .before .before .before .before .before .before .new-value .ensures) (c .before .before .before .before .before .before .new-label .ensures))
 
 pub make-row-spec : {M : Type 1} → statement M
 make-row-spec =
@@ -72,7 +72,7 @@ make-row-spec =
     mul-new-label
     slice-read-new-label
     new-label-requires
-    copy-up-requires
+    move-cells-requires
     add-value
     mul-value
     slice-set-from-value
