@@ -2,18 +2,13 @@
 ghost use mathlib.Core.Path.{_≡_};
 ghost use Rattle.value.specs.Comparison.{equal, unequal, less, atMost, greater, atLeast, same};
 use crate::range::both_in_range;
-use crate::range::in_range;
 use crate::range::settled;
 
 // Two values, a = b.
 pub fn equal(a: i64, b: i64) -> bool
     ensures { λ r. ⌜ r ≡ equal a b ⌝ }
 {
-    let is_one = a == b;
-    if !is_one {
-        return false;
-    }
-    in_range(a)
+    both_in_range(a, b) & (a == b)
 }
 
 // Two values, a ≠ b.
