@@ -1,0 +1,54 @@
+-- `step_trials::printing::cells` is safe and ends. The measure is what is left of the count. Assumes nothing.
+use Prim.Native.Nat.{_≤_, _-_}
+use borrow.Author.Needs.{needs}
+use Rattle.step_trials.proofs.printing.cells.Statement.{statement}
+use Rattle.step_trials.proofs.printing.cells.Tie as tie
+
+abbrev Inv-loop : tie.InvT-loop
+Inv-loop values labels at count place₀ i₀ t7 place i = i ≤ count
+
+abbrev μ-loop : tie.MeasureT-loop
+μ-loop values labels at count place₀ i₀ t7 place i = count - i
+
+loop-holds : tie.Need-loop-holds Inv-loop μ-loop
+loop-holds c = search needs
+
+slice-aggregate-text : tie.Need-slice-aggregate-text Inv-loop μ-loop
+slice-aggregate-text c = search needs
+
+text-requires : tie.Need-text-requires Inv-loop μ-loop
+text-requires c κs = search needs
+
+cell-requires : tie.Need-cell-requires Inv-loop μ-loop
+cell-requires c κs = search needs
+
+wrapping-add-usize-requires : tie.Need-wrapping-add-usize-requires Inv-loop μ-loop
+wrapping-add-usize-requires c κs = search needs
+
+add-i : tie.Need-add-i Inv-loop μ-loop
+add-i c = search needs
+
+loop-less : tie.Need-loop-less Inv-loop μ-loop
+loop-less c = search needs
+
+loop-again : tie.Need-loop-again Inv-loop μ-loop
+loop-again c = search needs
+
+returns : tie.Need-returns Inv-loop μ-loop
+returns c = search needs
+
+pub cells-spec : {M : Type 1} → statement M
+cells-spec =
+    tie.close
+    (tie.spec
+    Inv-loop
+    μ-loop
+    loop-holds
+    slice-aggregate-text
+    text-requires
+    cell-requires
+    wrapping-add-usize-requires
+    add-i
+    loop-less
+    loop-again
+    returns)
