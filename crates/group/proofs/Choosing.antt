@@ -9,10 +9,10 @@ use lib.Dec.{eqb}
 use lib.ListN.{length, getD, drop}
 use lib.Seq.{drop-cons, drop-drop}
 use borrow.Author.Tests.{eq-eqb, ne-eqb}
-use Rattle.group.specs.Members.{rowAt, rowsIn, rowsFrom, chosen}
+use Rattle.group.specs.Members.{rowAt, rowsIn, rowsFrom, chosen, FirstLed, Chain}
 use Rattle.group.specs.declared.Grouping.{Grouping}
 use Rattle.plan.specs.Sense.{Each}
-use Rattle.plan.specs.Table.{Cell, rowsOf}
+use Rattle.plan.specs.Table.{Cell, Row, rowsOf}
 use Rattle.group.proofs.Leading.{rows-next}
 
 -- the numbers from one on
@@ -21,13 +21,53 @@ numbers-next numbers i h = drop-cons numbers i 0 h ∙ ap (λ (n : ℕ). getD nu
 
 -- the members among the rows from one on, whose first cell stands at a place
 module _ (leaders : List ℕ) (row columns rows other place : ℕ) (memory : List Cell) (h : other < rows) (k : other < length leaders) where
-  pub member-taken : getD leaders other 0 ≡ row → chosen row (drop other leaders) (rowsOf columns (rows - other) (drop place memory))
+  member-taken : getD leaders other 0 ≡ row → chosen row (drop other leaders) (rowsOf columns (rows - other) (drop place memory))
       ≡ rowAt columns memory place ∷ chosen row (drop (other + 1) leaders) (rowsOf columns (rows - (other + 1)) (drop (place + columns) memory))
   member-taken e = rw (rows-next columns rows other place memory h, numbers-next leaders other k, eq-eqb (getD leaders other 0) row e)
 
-  pub member-passed : (getD leaders other 0 ≡ row → ⊥) → chosen row (drop other leaders) (rowsOf columns (rows - other) (drop place memory))
+  member-passed : (getD leaders other 0 ≡ row → ⊥) → chosen row (drop other leaders) (rowsOf columns (rows - other) (drop place memory))
       ≡ chosen row (drop (other + 1) leaders) (rowsOf columns (rows - (other + 1)) (drop (place + columns) memory))
   member-passed n = rw (rows-next columns rows other place memory h, numbers-next leaders other k, ne-eqb (getD leaders other 0) row n)
+
+-- the members are met one after the other in a chain
+module _ {rows : ℕ} {leaders next : List ℕ} (chain : Chain rows leaders next) (row columns at : ℕ) (memory : List Cell) where
+  -- those among the rows from one on
+  abbrev left : ℕ → List Row
+  left other = chosen row (drop other leaders) (rowsOf columns (rows - other) (drop (at + other * columns) memory))
+
+  skip : (n other : ℕ) → other + n ≤ rows → ((o : ℕ) → other ≤ o → o < other + n → getD leaders o 0 ≡ row → ⊥) → left other ≡ left (other + n)
+  skip zero other h none = let e : other + 0 ≡ other = omega arith in rw e
+  skip (suc n) other h none =
+      let e : other + suc n ≡ other + 1 + n = omega arith in
+      let p : at + other * columns + columns ≡ at + (other + 1) * columns = omega arith in
+      rw e (rw p at (member-passed leaders row columns rows other (at + other * columns) memory (omega arith) (omega (arith, chain .long)) (none other (omega arith) (omega arith)))
+      ∙ skip n (other + 1) (omega arith) (λ o a b. none o (omega arith) (omega arith)))
+
+  module _ (other : ℕ) (h : other < rows) (e : getD leaders other 0 ≡ row) where
+    first : FirstLed rows leaders row (other + 1) (getD next other 0)
+    first = rw e at (chain .each other h)
+
+    pub next-led : getD next other 0 < rows → getD leaders (getD next other 0) 0 ≡ row
+    next-led = first .led
+
+    pub next-left : left (other + 1) ≡ left (getD next other 0)
+    next-left =
+        let n : other + 1 + (getD next other 0 - (other + 1)) ≡ getD next other 0 = omega (arith, first .onward) in
+        rw n at (skip (getD next other 0 - (other + 1)) (other + 1) (omega (arith, first .upto)) (λ o a b. first .none o a (omega arith)))
+
+    pub member-next : left other ≡ rowAt columns memory (at + other * columns) ∷ left (getD next other 0)
+    member-next =
+        let p : at + other * columns + columns ≡ at + (other + 1) * columns = omega arith in
+        rw p at (member-taken leaders row columns rows other (at + other * columns) memory h (omega (arith, chain .long)) e) ∙ ap (λ (l : List Row). rowAt columns memory (at + other * columns) ∷ l) next-left
+
+pub each-chosen : {A : Type 0} (P : A → Type 0) (number : ℕ) (numbers : List ℕ) (list : List A) → Each P list → Each P (chosen number numbers list)
+each-chosen P number numbers [] e = tt
+each-chosen P number [] (x ∷ list) e = tt
+each-chosen P number (n ∷ numbers) (x ∷ list) e = either (eqb n number) (each-chosen P number numbers list (e .1))
+  where
+    either : (b : Bool) → Each P (chosen number numbers list) → Each P (cond b (x ∷ chosen number numbers list) (chosen number numbers list))
+    either true rest = (e .0, rest)
+    either false rest = rest
 
 pub chosen-fewer : {A : Type 0} (number : ℕ) (numbers : List ℕ) (list : List A) → length (chosen number numbers list) ≤ length list
 chosen-fewer number numbers [] = omega arith

@@ -1,5 +1,5 @@
 -- A group is its leader, and the later rows that have the leader for the first row with their keys. Assumes nothing.
-use Prim.Native.Nat.{ℕ, zero, suc, _+_, _-_, _<_}
+use Prim.Native.Nat.{ℕ, zero, suc, _+_, _-_, _≤_, _<_}
 use mathlib.Core.Path.{_≡_, refl, sym, ap, ap₂, _∙_}
 use mathlib.Core.Bool.{Bool, true, false, cond, _||_, true≢false, false≢true}
 use mathlib.Core.List.{List, [], _∷_, _++_, append-nil, append-assoc}
@@ -33,7 +33,7 @@ module _ {A : Type 0} where
 module _ (keys columns : ℕ) where
   -- ---- the first row with the keys of a row
 
-  first-none : (row : Row) (earlier more : List Row) → anySame keys columns row earlier ≡ false → firstSame keys columns row (earlier ++ more) ≡ length earlier + firstSame keys columns row more
+  pub first-none : (row : Row) (earlier more : List Row) → anySame keys columns row earlier ≡ false → firstSame keys columns row (earlier ++ more) ≡ length earlier + firstSame keys columns row more
   first-none row [] more e = omega arith
   first-none row (other ∷ rest) more e = go (sameKeys keys columns other row) e (first-none row rest more)
     where
@@ -51,8 +51,16 @@ module _ (keys columns : ℕ) where
       go true f ih = omega arith
       go false f ih = omega (arith, ih f)
 
+  first-upto : (row : Row) (rows : List Row) → firstSame keys columns row rows ≤ length rows
+  first-upto row [] = omega arith
+  first-upto row (other ∷ rest) = go (sameKeys keys columns other row) (first-upto row rest)
+    where
+      go : (b : Bool) → firstSame keys columns row rest ≤ length rest → cond b 0 (suc (firstSame keys columns row rest)) ≤ suc (length rest)
+      go true h = omega arith
+      go false h = omega arith
+
   -- a row with the keys of another one is met before where that one is
-  met-before : (a b : Row) (earlier : List Row) → sameKeys keys columns a b ≡ true → anySame keys columns b earlier ≡ true → anySame keys columns a earlier ≡ true
+  pub met-before : (a b : Row) (earlier : List Row) → sameKeys keys columns a b ≡ true → anySame keys columns b earlier ≡ true → anySame keys columns a earlier ≡ true
   met-before a b [] s e = e
   met-before a b (other ∷ rest) s e = go (sameKeys keys columns other b) (sameKeys keys columns other a) (λ f. same-keys-trans keys columns other b a f (same-keys-sym keys columns a b s)) e (met-before a b rest s)
     where
@@ -62,7 +70,7 @@ module _ (keys columns : ℕ) where
       go false false f g ih = ih g
 
   -- a leader is the first row with the keys of a later one if those are its keys
-  leads : (leader row : Row) (earlier more : List Row) → anySame keys columns leader earlier ≡ false
+  pub leads : (leader row : Row) (earlier more : List Row) → anySame keys columns leader earlier ≡ false
       → eqb (firstSame keys columns row (earlier ++ (leader ∷ more))) (length earlier) ≡ sameKeys keys columns leader row
   leads leader row earlier more new = go (anySame keys columns row earlier) refl (sameKeys keys columns leader row) refl
     where
@@ -92,7 +100,7 @@ module _ (keys columns : ℕ) (rows : List Row) (leaders : List ℕ) (known : ta
   here : drop i rows ≡ row ∷ drop (i + 1) rows
   here = drop-cons rows i row h ∙ ap₂ (λ (x : Row) (n : ℕ). x ∷ drop n rows) is (sym (add-one i))
 
-  before : take (i + 1) rows ≡ take i rows ++ (row ∷ [])
+  pub before : take (i + 1) rows ≡ take i rows ++ (row ∷ [])
   before = ap (λ (n : ℕ). take n rows) (add-one i) ∙ take-suc rows i row h ∙ ap (λ (x : Row). take i rows ++ (x ∷ [])) is
 
   as-many : length (take i rows) ≡ i
@@ -103,6 +111,9 @@ module _ (keys columns : ℕ) (rows : List Row) (leaders : List ℕ) (known : ta
       let l = leadersAfter keys columns [] rows in
       sym (getD-take (length rows) leaders i 0 h) ∙ ap (λ (l : List ℕ). getD l i 0) known ∙ ap (λ (n : ℕ). getD l n 0) (sym (add-zero i)) ∙ sym (getD-drop i l 0 0)
       ∙ ap (λ (l : List ℕ). getD l 0 0) (leaders-drop keys columns [] rows i ∙ ap (leadersAfter keys columns (take i rows)) here)
+
+  pub leader-upto : getD leaders i 0 ≤ i
+  leader-upto = omega (arith, leader-is, first-upto keys columns row (take i rows), as-many)
 
   pub new-leader : getD leaders i 0 ≡ i → anySame keys columns row (take i rows) ≡ false
   new-leader e = go (anySame keys columns row (take i rows)) refl

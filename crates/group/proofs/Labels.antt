@@ -50,23 +50,19 @@ few-codes Avg = omega arith
 pub composed-formed : (all next code size : ℕ) → wellFormed all ≡ true → wellFormed next ≡ true → wellFormed (composed all (afterA next code size)) ≡ true
 composed-formed all next code size p q = compose-well-formed all (afterA next code size) p (after-A-well-formed next code size q)
 
--- a composition so far, the members that are left, and the rows that are left
-pub record Composing (code size column whole all : ℕ) (left rows : List Row) : Type 0 where
+-- a composition so far, and the members that are left
+pub record Composing (code size column whole all : ℕ) (left : List Row) : Type 0 where
   pub formed : wellFormed all ≡ true
-  pub allowed : Each (Allowed column) rows
+  pub allowed : Each (Allowed column) left
   pub rest : whole ≡ composedAfter code size all (labelsIn column left)
 
-pub none-composed : (code size column : ℕ) (left rows : List Row) → Each (Allowed column) rows → Composing code size column (composedAfter code size 0 (labelsIn column left)) 0 left rows
-none-composed code size column left rows a = record { formed = zero-well-formed; allowed = a; rest = refl }
+pub none-composed : (code size column : ℕ) (left : List Row) → Each (Allowed column) left → Composing code size column (composedAfter code size 0 (labelsIn column left)) 0 left
+none-composed code size column left a = record { formed = zero-well-formed; allowed = a; rest = refl }
 
-module _ {code size column whole all : ℕ} {left rows : List Row} {row : Row} where
-  pub label-taken : {next : ℕ} → Composing code size column whole all (row ∷ left) (row ∷ rows) → next ≡ composed all (afterA (cellAt column row .label) code size)
-      → Composing code size column whole next left rows
-  label-taken c e = record {
-    formed = rw e (composed-formed all (cellAt column row .label) code size (c .formed) (c .allowed .0 .0));
-    allowed = c .allowed .1;
-    rest = rw e (c .rest);
-  }
-
-  pub label-passed : Composing code size column whole all left (row ∷ rows) → Composing code size column whole all left rows
-  label-passed c = record { formed = c .formed; allowed = c .allowed .1; rest = c .rest }
+pub label-taken : {code size column whole all next : ℕ} {left : List Row} {row : Row} → Composing code size column whole all (row ∷ left)
+    → next ≡ composed all (afterA (cellAt column row .label) code size) → Composing code size column whole next left
+label-taken {code} {size} {column} {whole} {all} {next} {left} {row} c e = record {
+  formed = rw e (composed-formed all (cellAt column row .label) code size (c .formed) (c .allowed .0 .0));
+  allowed = c .allowed .1;
+  rest = rw e (c .rest);
+}

@@ -1,7 +1,6 @@
 -- The first row with the keys of a row. Assumes nothing.
 use Prim.Native.Nat.{ℕ, zero, suc, _+_, _-_, _*_, _≤_, _<_}
 use mathlib.Core.Path.{_≡_, refl, sym, ap, ap₂, _∙_}
-use mathlib.Core.Bool.{true, false}
 use mathlib.Core.List.{List, [], _∷_, _++_, append-nil, append-assoc}
 use native.Mathlib.Numerals.{add-one}
 use native.Mathlib.Omega.{arith}
@@ -9,7 +8,6 @@ use lib.ListN.{length, getD, take, drop, set}
 use lib.Seq.{drop-drop, take-suc, take-suc-set}
 use Rattle.group.specs.Members.{rowAt, rowOf, rowsIn, firstSame, leadersAfter}
 use Rattle.group.specs.declared.Grouping.{Grouping}
-use Rattle.plan.specs.Group.{sameKeys}
 use Rattle.plan.specs.Table.{Cell, Row, rowsOf}
 use Rattle.memory.proofs.Rows.{row-at, rows-length}
 
@@ -20,25 +18,12 @@ rows-next columns rows row place memory h =
     let e : rows - row ≡ suc (rows - (row + 1)) = omega arith in
     rw (e, drop-drop columns place memory)
 
-pub rows-none : (columns rows row : ℕ) (cells : List Cell) → rows ≤ row → rowsOf columns (rows - row) cells ≡ []
-rows-none columns rows row cells h = let e : rows - row ≡ 0 = omega arith in rw e
-
 -- the first rows of a table
 pub rows-take : (columns rows n : ℕ) (cells : List Cell) → n ≤ rows → take n (rowsOf columns rows cells) ≡ rowsOf columns n cells
 rows-take columns zero zero cells h = refl
 rows-take columns (suc rows) zero cells h = refl
 rows-take columns zero (suc n) cells h = absurd (omega arith)
 rows-take columns (suc rows) (suc n) cells h = ap (λ (l : List Row). record { cells = take columns cells } ∷ l) (rows-take columns rows n (drop columns cells) (omega arith))
-
--- the search among the rows from one on, whose first cell stands at a place
-module _ (keys columns : ℕ) (row : Row) (memory : List Cell) (rows other place : ℕ) (h : other < rows) where
-  pub first-found : sameKeys keys columns (rowAt columns memory place) row ≡ true → firstSame keys columns row (rowsOf columns (rows - other) (drop place memory)) ≡ 0
-  first-found e = rw (rows-next columns rows other place memory h, e)
-
-  pub first-passed : sameKeys keys columns (rowAt columns memory place) row ≡ false
-      → other + firstSame keys columns row (rowsOf columns (rows - other) (drop place memory))
-      ≡ other + 1 + firstSame keys columns row (rowsOf columns (rows - (other + 1)) (drop (place + columns) memory))
-  first-passed e = rw (rows-next columns rows other place memory h, e) (omega arith)
 
 -- one row of a table
 pub row-of : (g : Grouping) (memory : List Cell) (row : ℕ) (d : Row) → row < g .rows → getD (rowsIn g memory) row d ≡ rowOf g memory row

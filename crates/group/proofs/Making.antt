@@ -15,7 +15,7 @@ use Rattle.plan.specs.Keep.{keptCells}
 use Rattle.plan.specs.Sense.{Each}
 use Rattle.plan.specs.Table.{Cell, Row, Table}
 use Rattle.group.proofs.Choosing.{rows-left}
-use Rattle.group.proofs.Groups.{group-next, group-none}
+use Rattle.group.proofs.Groups.{leader-upto, group-next, group-none}
 use Rattle.group.proofs.Leading.{row-of}
 use Rattle.memory.proofs.CellLaws.{cells-length, kept-none, kept-then}
 use Rattle.memory.proofs.Rows.{Wide, rows-length}
@@ -61,6 +61,12 @@ module _ (g : Grouping) (values : List ℤ) (labels : List ℕ) where
     pub wide : Each (Wide (width g)) (map rowOfGroup done)
     pub written : Written memory 6144 (flat (map rowOfGroup done)) (cellsOf vs ls)
     pub kept : Kept values labels vs ls
+
+  -- a row is not led by a later one
+  pub leader-before : (leaders : List ℕ) → take (g .rows) leaders ≡ leadersAfter (g .keys) (g .columns) [] (rowsIn g memory) → (row : ℕ) → row < g .rows → getD leaders row 0 ≤ row
+  leader-before leaders known row h =
+      let n = rows-length (g .columns) (g .rows) (drop (g .at) memory) in
+      leader-upto (g .keys) (g .columns) (rowsIn g memory) leaders (rw n known) row (rowOf g memory row) (rw n h) (row-of g memory row (rowOf g memory row) h)
 
   module _ (source : Source g (length values) (length labels)) where
     room : 8192 ≤ length memory

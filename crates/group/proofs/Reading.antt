@@ -1,5 +1,5 @@
 -- Cells of a table in memory, read out of the slices. Assumes nothing.
-use Prim.Native.Nat.{ℕ, _+_, _≤_, _<_}
+use Prim.Native.Nat.{ℕ, zero, suc, _+_, _≤_, _<_}
 use mathlib.Core.Path.{_≡_, sym, ap, _∙_}
 use mathlib.Core.Bool.{Bool, true, false, _&&_, and-true}
 use mathlib.Core.List.{List}
@@ -37,3 +37,8 @@ module _ (keys column : ℕ) (a b : Row) {all : Bool} (e : all ≡ sameKeys keys
 
   pub column-passed : bitAt keys column ≡ false → all ≡ sameKeys keys (column + 1) a b
   column-passed k = rw (add-one column, k, e) (sym (and-true (sameKeys keys column a b)))
+
+-- rows whose keys differ among the first columns differ
+pub differ : (keys column more : ℕ) (a b : Row) → sameKeys keys column a b ≡ false → sameKeys keys (more + column) a b ≡ false
+differ keys column zero a b e = let z : 0 + column ≡ column = omega arith in rw z e
+differ keys column (suc more) a b e = let s : suc more + column ≡ suc (more + column) = omega arith in rw (s, differ keys column more a b e)

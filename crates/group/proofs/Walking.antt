@@ -28,6 +28,10 @@ module _ {length at rows columns column row place : ℕ} (w : Walking length at 
   pub walk-on : Walking length at rows columns column (row + 1) (place + columns)
   walk-on = record { few-rows = w .few-rows; has-column = w .has-column; within = w .within; upto = omega arith; here = omega (arith, w .here) }
 
+-- the walk goes to another row
+pub walk-to : {length at rows columns column row place : ℕ} (n : ℕ) → Walking length at rows columns column row place → n ≤ rows → Walking length at rows columns column n (at + n * columns)
+walk-to n w h = record { few-rows = w .few-rows; has-column = w .has-column; within = w .within; upto = h; here = omega arith }
+
 -- another slice that has the table
 pub inside-other : {length at rows columns column row place : ℕ} (n : ℕ) → Walking length at rows columns column row place → row < rows → at + rows * columns ≤ n → place + columns ≤ n
 inside-other {length} {at} {rows} {columns} {column} {row} {place} n w h k = omega (arith, row-room at rows columns row n h k, w .here)

@@ -4,7 +4,7 @@ use mathlib.Core.Path.{_≡_}
 use mathlib.Core.Bool.{true, false, cond}
 use mathlib.Core.List.{List, [], _∷_, _++_}
 use lib.Dec.{eqb}
-use lib.ListN.{getD, take, drop}
+use lib.ListN.{length, getD, take, drop}
 use Rattle.group.specs.declared.Grouping.{Grouping}
 use Rattle.label.specs.Discharge.{forbidsA}
 use Rattle.label.specs.WellFormed.{wellFormed}
@@ -79,6 +79,31 @@ later g memory leaders row = chosen row (drop (row + 1) leaders) (rowsFrom g mem
 
 abbrev pub members : Grouping → List Cell → List ℕ → ℕ → List Row
 members g memory leaders row = rowOf g memory row ∷ later g memory leaders row
+
+-- a list of the rows that lead groups, among those before a row
+pub record Leads (g : Grouping) (memory : List Cell) (row : ℕ) (leads : List ℕ) (count : ℕ) : Type 0 where
+  pub found : List ℕ
+  pub known : take row found ≡ leadersAfter (g .keys) (g .columns) [] (take row (rowsIn g memory))
+  pub lead : (i : ℕ) → i < count → getD found (getD leads i 0) 0 ≡ getD leads i 0
+  pub all : (other : ℕ) → other < row → getD found other 0 ≡ other → (i : ℕ) × (i < count) × (getD leads i 0 ≡ other)
+
+-- the first row from one on that a number stands beside; where there is none, how many rows there are
+pub record FirstLed (rows : ℕ) (leaders : List ℕ) (number from at : ℕ) : Type 0 where
+  pub onward : from ≤ at
+  pub upto : at ≤ rows
+  pub led : at < rows → getD leaders at 0 ≡ number
+  pub none : (other : ℕ) → from ≤ other → other < at → getD leaders other 0 ≡ number → ⊥
+
+-- for each row the next one with its leader
+pub record Chain (rows : ℕ) (leaders next : List ℕ) : Type 0 where
+  pub long : rows ≤ length leaders
+  pub each : (row : ℕ) → row < rows → FirstLed rows leaders (getD leaders row 0) (row + 1) (getD next row 0)
+
+-- for each row a later one, or how many rows there are
+pub record Onward (rows : ℕ) (next : List ℕ) : Type 0 where
+  pub full : length next ≡ 256
+  pub further : (row : ℕ) → row < rows → row < getD next row 0
+  pub upto : (row : ℕ) → row < rows → getD next row 0 ≤ rows
 
 -- a label that an aggregate may be made of
 abbrev pub AllowedLabel : ℕ → Type 0

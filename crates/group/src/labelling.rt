@@ -2,9 +2,9 @@
 ghost use mathlib.Core.Path.{_≡_};
 ghost use mathlib.Core.List.{List};
 ghost use mathlib.Core.Bool.{true};
-ghost use Prim.Native.Nat.{_<_};
+ghost use Prim.Native.Nat.{ℕ, _<_};
 ghost use lib.IntN.{ℤ};
-ghost use lib.ListN.{length};
+ghost use lib.ListN.{length, getD};
 ghost use Rattle.label.specs.Composition.{composed};
 ghost use Rattle.label.specs.Discharge.{afterA};
 ghost use Rattle.label.specs.WellFormed.{wellFormed};
@@ -19,16 +19,10 @@ use label::Answer;
 use plan::Aggregate;
 
 // The labels of the group that a row leads, each discharged over so many rows, composed in row order.
-pub fn group_label(
-    labels: &[u32],
-    leaders: &[usize; 256],
-    g: Grouping,
-    row: usize,
-    size: u32,
-) -> u32
+pub fn group_label(labels: &[u32], next: &[usize; 256], g: Grouping, row: usize, size: u32) -> u32
     requires { ⌜ spec.Inside g (length (now labels)) ⌝ }
-    requires { ⌜ (row < g .rows) × (length (now leaders) ≡ 256) ⌝ }
-    ensures { λ r. ⌜ ((values : List ℤ) → spec.Inside g (length values) → Each (spec.Allowed (g .column)) (spec.rowsFrom g (cellsOf values (now (labels .entry))) row) → r ≡ composedAfter (aggregateCode (g .aggregate)) size 0 (sums.labelsIn (g .column) (spec.members g (cellsOf values (now (labels .entry))) (now (leaders .entry)) row))) ⌝ }
+    requires { ⌜ (row < g .rows) × spec.Onward (g .rows) (now next) ⌝ }
+    ensures { λ r. ⌜ ((leaders : List ℕ) (values : List ℤ) → spec.Chain (g .rows) leaders (now (next .entry)) → getD leaders row 0 ≡ row → spec.Inside g (length values) → Each (spec.Allowed (g .column)) (spec.rowsFrom g (cellsOf values (now (labels .entry))) row) → r ≡ composedAfter (aggregateCode (g .aggregate)) size 0 (sums.labelsIn (g .column) (spec.members g (cellsOf values (now (labels .entry))) leaders row))) ⌝ }
 {
     let rows = g.rows;
     let columns = g.columns;
@@ -36,16 +30,13 @@ pub fn group_label(
     let at = g.at;
     let aggregate = g.aggregate;
     let code = code_of(aggregate);
-    let mut place = at + row * columns;
-    let mut all = with_label(0, labels[place + column], code, size);
-    place += columns;
-    let mut other = row + 1;
+    let first = at + row * columns;
+    let mut all = with_label(0, labels[first + column], code, size);
+    let mut other = next[row];
     while other < rows {
-        if leaders[other] == row {
-            all = with_label(all, labels[place + column], code, size);
-        }
-        place += columns;
-        other += 1;
+        let place = at + other * columns;
+        all = with_label(all, labels[place + column], code, size);
+        other = next[other];
     }
     all
 }

@@ -1,8 +1,8 @@
 // The rows of the groups, made one after the other from place 6,144 on.
 ghost use mathlib.Core.Path.{_≡_};
-ghost use mathlib.Core.List.{_∷_, [], _++_};
-ghost use Prim.Native.Nat.{_+_, _≤_, _<_};
-ghost use lib.ListN.{length};
+ghost use mathlib.Core.List.{List, _∷_, [], _++_};
+ghost use Prim.Native.Nat.{ℕ, _+_, _≤_, _<_};
+ghost use lib.ListN.{length, getD};
 ghost use Rattle.plan.specs.Group.{groupRow};
 ghost use Rattle.plan.specs.Keep.{keptCells};
 ghost use Rattle.plan.specs.Sense.{Each};
@@ -12,6 +12,7 @@ ghost use Rattle.group.specs.Members as spec;
 use crate::Grouping;
 use crate::fit::key_count;
 use crate::labelling::group_label;
+use crate::leader::chain;
 use crate::leader::leaders;
 use crate::member::summary;
 use crate::member::value_of;
@@ -36,13 +37,14 @@ fn write_groups(values: &mut [i64], labels: &mut [u32], g: Grouping) -> usize
 {
     let found = leaders(values, g);
     let rows = g.rows;
+    let next = chain(&found, rows);
     let width = key_count(g.keys, g.columns) + 1;
     let mut count = 0;
     let mut to = 6144;
     let mut row = 0;
     while row < rows {
         if found[row] == row {
-            write_group(values, labels, &found, g, row, to);
+            write_group(values, labels, &next, g, row, to);
             to += width;
             count += 1;
         }
@@ -55,18 +57,18 @@ fn write_groups(values: &mut [i64], labels: &mut [u32], g: Grouping) -> usize
 fn write_group(
     values: &mut [i64],
     labels: &mut [u32],
-    leaders: &[usize; 256],
+    next: &[usize; 256],
     g: Grouping,
     row: usize,
     to: usize,
 )
     requires { ⌜ made.Source g (length (now values)) (length (now labels)) ⌝ }
     requires { ⌜ Each (spec.Allowed (g .column)) (spec.rowsIn g (cellsOf (now values) (now labels))) ⌝ }
-    requires { ⌜ (row < g .rows) × (length (now leaders) ≡ 256) × (6144 ≤ to) × (to + made.width g ≤ 8192) ⌝ }
-    ensures { λ r. ⌜ made.Wrote to (groupRow (g .keys) (g .columns) (g .aggregate) (g .column) (spec.members g (cellsOf (now (values .entry)) (now (labels .entry))) (now (leaders .entry)) row) .cells) (now (values .entry)) (now (labels .entry)) (now (values .exit)) (now (labels .exit)) ⌝ }
+    requires { ⌜ (row < g .rows) × spec.Onward (g .rows) (now next) × (6144 ≤ to) × (to + made.width g ≤ 8192) ⌝ }
+    ensures { λ r. ⌜ ((leaders : List ℕ) → spec.Chain (g .rows) leaders (now (next .entry)) → getD leaders row 0 ≡ row → made.Wrote to (groupRow (g .keys) (g .columns) (g .aggregate) (g .column) (spec.members g (cellsOf (now (values .entry)) (now (labels .entry))) leaders row) .cells) (now (values .entry)) (now (labels .entry)) (now (values .exit)) (now (labels .exit))) ⌝ }
 {
-    let s = summary(values, leaders, g, row);
-    let label = group_label(labels, leaders, g, row, s.rows);
+    let s = summary(values, next, g, row);
+    let label = group_label(labels, next, g, row, s.rows);
     let aggregate = g.aggregate;
     let value = value_of(s, aggregate);
     write_row(values, labels, g, row, to, value, label);

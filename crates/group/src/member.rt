@@ -1,8 +1,9 @@
-// The value of a group's aggregate, made of its members: its first row, and the later rows that the first row leads.
+// The value of a group's aggregate, made of its members: its first row, and the later rows that the first row leads, each of which is the
+// next one of the member before.
 ghost use mathlib.Core.Path.{_≡_};
 ghost use mathlib.Core.List.{List};
 ghost use Prim.Native.Nat.{ℕ, _<_};
-ghost use lib.ListN.{length};
+ghost use lib.ListN.{length, getD};
 ghost use Rattle.plan.specs.Table.{cellAt};
 ghost use Rattle.memory.specs.Cells.{cellsOf};
 ghost use Rattle.group.specs.Members as spec;
@@ -19,25 +20,22 @@ use value::range::in_range;
 use value::range::settled;
 
 // The summary of the group that a row leads.
-pub fn summary(values: &[i64], leaders: &[usize; 256], g: Grouping, row: usize) -> Summary
+pub fn summary(values: &[i64], next: &[usize; 256], g: Grouping, row: usize) -> Summary
     requires { ⌜ spec.Inside g (length (now values)) ⌝ }
-    requires { ⌜ (row < g .rows) × (length (now leaders) ≡ 256) ⌝ }
-    ensures { λ r. ⌜ ((labels : List ℕ) → spec.Inside g (length labels) → r ≡ sums.summaryFrom (sums.single (cellAt (g .column) (spec.rowOf g (cellsOf (now (values .entry)) labels) row) .value)) (sums.valuesIn (g .column) (spec.later g (cellsOf (now (values .entry)) labels) (now (leaders .entry)) row))) ⌝ }
+    requires { ⌜ (row < g .rows) × spec.Onward (g .rows) (now next) ⌝ }
+    ensures { λ r. ⌜ ((leaders labels : List ℕ) → spec.Chain (g .rows) leaders (now (next .entry)) → getD leaders row 0 ≡ row → spec.Inside g (length labels) → r ≡ sums.summaryFrom (sums.single (cellAt (g .column) (spec.rowOf g (cellsOf (now (values .entry)) labels) row) .value)) (sums.valuesIn (g .column) (spec.later g (cellsOf (now (values .entry)) labels) leaders row))) ⌝ }
 {
     let rows = g.rows;
     let columns = g.columns;
     let column = g.column;
     let at = g.at;
-    let mut place = at + row * columns;
-    let mut s = single(values[place + column]);
-    place += columns;
-    let mut other = row + 1;
+    let first = at + row * columns;
+    let mut s = single(values[first + column]);
+    let mut other = next[row];
     while other < rows {
-        if leaders[other] == row {
-            s = with_value(s, values[place + column]);
-        }
-        place += columns;
-        other += 1;
+        let place = at + other * columns;
+        s = with_value(s, values[place + column]);
+        other = next[other];
     }
     s
 }

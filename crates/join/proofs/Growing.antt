@@ -1,7 +1,7 @@
 -- Rows made after others in the last slot. Assumes nothing.
 use Prim.Native.Nat.{ℕ, _+_, _*_, _≤_, _<_, _^_}
 use mathlib.Core.Path.{_≡_, refl, sym, ap, ap₂, _∙_}
-use mathlib.Core.Bool.{Bool, true, false}
+use mathlib.Core.Bool.{Bool, true, false, and-false}
 use mathlib.Core.List.{List, [], _++_, append-nil}
 use native.Mathlib.Nat.{add-zero}
 use native.Mathlib.Omega.{arith}
@@ -15,7 +15,7 @@ use Rattle.memory.specs.Cells.{cellsOf, flat, Kept}
 use Rattle.plan.specs.Join.{matches}
 use Rattle.plan.specs.Sense.{Each}
 use Rattle.plan.specs.Table.{Cell, Row, blank, cellAt}
-use Rattle.value.specs.Comparison.{equal}
+use Rattle.value.specs.Comparison.{eqZ, equal}
 use Rattle.memory.proofs.CellLaws.{cells-length, cells-get, kept-none, kept-then}
 use Rattle.memory.proofs.RowReads.{flat-append, flat-length}
 use Rattle.memory.proofs.Rows.{Wide, rows-wide}
@@ -54,6 +54,12 @@ module _ {left right : Side} (vs : List ℤ) (ls : List ℕ) (sides : Sides (len
       → mag (getD vs (at + left .key) (pos 0)) < 2 ^ 63 → mag (getD vs (other + right .key) (pos 0)) < 2 ^ 63
       → r ≡ equal (back (getD vs (at + left .key) (pos 0))) (back (getD vs (other + right .key) (pos 0))) → keysMatch memory left right at other ≡ r
   keys-match at other h k m n e = ap₂ equal (key-at left at (sides .left-key) h) (key-at right other (sides .right-key) k) ∙ sym (e ∙ ap₂ equal (back-is _ m) (back-is _ n))
+
+  -- two values that differ do not match
+  pub keys-differ : (at other : ℕ) → at + left .columns ≤ 6144 → other + right .columns ≤ 6144 → eqZ (getD vs (at + left .key) (pos 0)) (getD vs (other + right .key) (pos 0)) ≡ false
+      → keysMatch memory left right at other ≡ false
+  unfolding equal
+  keys-differ at other h k e = ap₂ equal (key-at left at (sides .left-key) h) (key-at right other (sides .right-key) k) ∙ rw (e, and-false)
 
   pub none-made : {made : ℕ} → made ≤ 256 → Grown made left right [] vs ls made vs ls
   none-made {made} h = record {

@@ -1,12 +1,13 @@
 -- The turns of the two loops: one right row more, one left row more. Assumes nothing.
-use Prim.Native.Nat.{ℕ, suc, _+_, _-_, _*_, _≤_, _<_}
-use mathlib.Core.Path.{_≡_, sym, ap, ap₂, _∙_}
+use Prim.Native.Nat.{ℕ, zero, suc, _+_, _-_, _*_, _≤_, _<_}
+use mathlib.Core.Path.{_≡_, refl, sym, ap, ap₂, _∙_}
+use mathlib.Core.Bool.{false}
 use mathlib.Core.List.{List, [], _∷_, _++_, append-nil}
-use native.Mathlib.Nat.{mul-le-mul-right}
+use native.Mathlib.Nat.{mul-le-mul-right, add-zero, add-mul, suc-mul}
 use native.Mathlib.Numerals.{add-one}
 use native.Mathlib.Omega.{arith}
-use lib.IntN.{ℤ}
-use lib.ListN.{length, take, drop, length-drop}
+use lib.IntN.{ℤ, pos}
+use lib.ListN.{length, getD, take, drop, length-drop}
 use lib.Seq.{length-take-le, drop-drop}
 use Rattle.join.specs.Pairs.{Sides, Grown, width, rowAt, rowsIn, pairRows, leftRows}
 use Rattle.join.specs.declared.Side.{Side}
@@ -14,8 +15,9 @@ use Rattle.memory.specs.Cells.{cellsOf, Kept}
 use Rattle.plan.specs.Join.{joinedTo, joinedRows}
 use Rattle.plan.specs.Sense.{Each}
 use Rattle.plan.specs.Table.{Cell, Row, Table, rowsOf}
+use Rattle.value.specs.Comparison.{eqZ}
 use Rattle.join.proofs.Above.{part-same, cells-same}
-use Rattle.join.proofs.Growing.{room, cells-in, rows-in-wide, then-made, over-made}
+use Rattle.join.proofs.Growing.{keys-differ, unmatched, room, cells-in, rows-in-wide, then-made, over-made}
 use Rattle.join.proofs.Joining.{to-add, rows-add, row-more, fewer, to-joined-wide, rows-joined-wide}
 use Rattle.memory.proofs.Rows.{Wide, rows-wide}
 use Rattle.memory.proofs.Stacks.{table-same}
@@ -78,6 +80,23 @@ module _ {left right : Side} (vs : List ℤ) (ls : List ℕ) (sides : Sides (len
         row-next with (to-add (left .key) (right .key) (rowAt memory left at)) (right .columns) (drop (right .at) memory) i
         (λ xs x. to-joined-wide (left .key) (right .key) (left .columns) (right .columns) (sides .left-key) (sides .right-key) (rowAt memory left at) xs wide x)
         (omega (arith, cells-in vs ls sides right (sides .right-below))) g k (ap₂ (λ (x y : Row). joinedTo (left .key) (right .key) x (y ∷ [])) l r) f
+
+    -- right rows whose keys differ from the left one are passed over
+    pub rights-skipped : (other i r : ℕ) {us : List ℤ} {ks : List ℕ} {made count : ℕ} → i + r ≤ right .rows → other ≡ right .at + i * right .columns
+        → Paired left right vs ls made at i count us ks → count ≤ 256
+        → ((j : ℕ) → j < r → eqZ (getD us (at + left .key) (pos 0)) (getD us (other + right .key + j * right .columns) (pos 0)) ≡ false)
+        → Paired left right vs ls made at (i + r) count us ks
+    rights-skipped other i zero h e g k differ = rw add-zero g
+    rights-skipped other i (suc r) {us} {ks} {made} {count} h e g k differ =
+        let place : right .at + (i + r) * right .columns ≡ other + r * right .columns = omega (arith, e, add-mul i r (right .columns)) in
+        let inside : right .at + (i + r) * right .columns + right .columns ≤ 6144 = omega (arith, mul-le-mul-right (right .columns) h, sides .right-below, suc-mul (i + r) (right .columns)) in
+        let key : other + right .key + r * right .columns ≡ right .at + (i + r) * right .columns + right .key = omega (arith, place) in
+        let apart = ap (λ (n : ℕ). eqZ (getD us (at + left .key) (pos 0)) (getD us n (pos 0))) (sym key) ∙ differ r (omega arith) in
+        let next : i + r + 1 ≡ i + suc r = omega arith in
+        let s = sides-kept (g .kept) in
+        rw next at (right-next (right .at + (i + r) * right .columns) (i + r) (omega arith) refl
+        (rights-skipped other i r (omega arith) e g k (λ j l. differ j (omega arith))) k
+        (unmatched us ks s at (right .at + (i + r) * right .columns) (keys-differ us ks s at (right .at + (i + r) * right .columns) low inside apart) k))
 
     pub rights-over : (i : ℕ) {us : List ℤ} {ks : List ℕ} {made count : ℕ} → i ≤ right .rows → Paired left right vs ls made at i count us ks → 256 < count
         → Paired left right vs ls made at (right .rows) count us ks

@@ -1,7 +1,10 @@
 // The rows of a join, made one after the other from place 6,144 on.
 ghost use mathlib.Core.Path.{_≡_};
-ghost use Prim.Native.Nat.{_+_, _-_, _*_, _≤_, _<_};
-ghost use lib.ListN.{length};
+ghost use mathlib.Core.Bool.{false};
+ghost use Prim.Native.Nat.{ℕ, _+_, _-_, _*_, _≤_, _<_};
+ghost use lib.IntN.{pos};
+ghost use lib.ListN.{length, getD};
+ghost use Rattle.value.specs.Comparison.{eqZ};
 ghost use Rattle.memory.specs.Cells.{cellsOf, Kept};
 ghost use Rattle.join.specs.Pairs as spec;
 use crate::Side;
@@ -45,11 +48,35 @@ fn join_row(
     let mut other = right.at;
     let mut i = 0;
     while i < rows {
-        count = join_pair(values, labels, left, right, at, other, count);
-        if 256 < count {
-            return count;
+        let key = values[at + left.key];
+        let skipped = unlike(values, key, other + right.key, columns, rows - i);
+        other += skipped * columns;
+        i += skipped;
+        if i < rows {
+            count = join_pair(values, labels, left, right, at, other, count);
+            if 256 < count {
+                return count;
+            }
+            other += columns;
+            i += 1;
         }
-        other += columns;
+    }
+    count
+}
+
+// How many values, of so many from a place on and `step` apart, come before the first that is `key`.
+fn unlike(values: &[i64], key: i64, place: usize, step: usize, count: usize) -> usize
+    requires { ⌜ (step ≤ 8) × (place + count * step < length (now values) + step) ⌝ }
+    ensures { λ r. ⌜ (r ≤ count) × ((j : ℕ) → j < r → eqZ key (getD (now (values .entry)) (place + j * step) (pos 0)) ≡ false) ⌝ }
+{
+    let mut at = place;
+    let mut i = 0;
+    while i < count {
+        let is_key = key == values[at];
+        if is_key {
+            return i;
+        }
+        at += step;
         i += 1;
     }
     count

@@ -1,27 +1,28 @@
--- `group::leader::same_keys` meets its contract. The loop: the keys among the columns passed are compared. Assumes nothing.
+-- `group::leader::same_keys` meets its contract. The loop: the keys among the columns passed are the same. Assumes nothing.
 use Prim.Native.Nat.{ℕ, _+_, _-_, _≤_}
 use mathlib.Core.Path.{ap₂, _≡_, refl, sym, _∙_}
+use mathlib.Core.Bool.{true}
 use mathlib.Core.List.{List}
 use mathlib.Core.Logic.{⊎-elim}
 use native.Mathlib.Omega.{arith}
 use lib.ListN.{length}
 use borrow.Author.Needs.{needs}
-use borrow.Author.Tests.{eq-eqb, ne-eqb}
+use borrow.Author.Tests.{eq-eqb, ne-eqb, not-true, not-false}
 use Rattle.group.specs.Members.{rowAt}
 use Rattle.label.specs.Word.{fieldAt}
 use Rattle.memory.specs.Cells.{cellsOf}
 use Rattle.plan.specs.Group.{sameKeys}
 use Rattle.value.specs.Comparison.{same}
-use Rattle.group.proofs.Reading.{key-compared, column-passed, value-read}
+use Rattle.group.proofs.Reading.{key-compared, column-passed, differ, value-read}
 use Rattle.value.proofs.Machine.{back-is}
 use Rattle.group.proofs.leader.same_keys.Statement.{statement}
 use Rattle.group.proofs.leader.same_keys.Tie as tie
 
 abbrev Inv-loop : tie.InvT-loop
-Inv-loop values first second columns keys all₀ column₀ all column = (column ≤ columns) × ((labels : List ℕ) → first + columns ≤ length labels → second + columns ≤ length labels → all ≡ sameKeys keys column (rowAt columns (cellsOf values labels) first) (rowAt columns (cellsOf values labels) second))
+Inv-loop values first second columns keys column₀ column = (column ≤ columns) × ((labels : List ℕ) → first + columns ≤ length labels → second + columns ≤ length labels → true ≡ sameKeys keys column (rowAt columns (cellsOf values labels) first) (rowAt columns (cellsOf values labels) second))
 
 abbrev μ-loop : tie.MeasureT-loop
-μ-loop values first second columns keys all₀ column₀ all column = columns - column
+μ-loop values first second columns keys column₀ column = columns - column
 
 loop-holds : tie.Need-loop-holds Inv-loop μ-loop
 loop-holds c = (omega arith, λ labels p q. refl)
@@ -53,6 +54,27 @@ shared-slice-copy-out-same-2 c = omega arith
 same-requires : tie.Need-same-requires Inv-loop μ-loop
 same-requires c κs = search needs
 
+-- the answer for one key column is that of all columns up to it
+compared : (c : tie.After-same Inv-loop μ-loop) (labels : List ℕ) → let a = c .before .before .before .before .before .before .args in
+    a .first + a .columns ≤ length labels → a .second + a .columns ≤ length labels
+    → c .same .result ≡ sameKeys (a .keys) (c .before .before .before .before .before .loop .column + 1) (rowAt (a .columns) (cellsOf (a .values .now) labels) (a .first)) (rowAt (a .columns) (cellsOf (a .values .now) labels) (a .second))
+unfolding fieldAt
+compared c labels p q =
+    let s = c .before .before .before .before .before .before in
+    let a = s .args in
+    let l = c .before .before .before .before .before .loop in
+    let h = c .before .before .before .before .loop-test .taken in
+    key-compared (a .keys) (l .column) _ _ (l .inv .1 labels p q) (eq-eqb _ 1 (c .before .before .before .if1 .taken))
+    (c .same .ensures ∙ ap₂ same (back-is _ (c .before .before .same-arg .given)) (back-is _ (c .before .same-arg2 .given))
+    ∙ sym (ap₂ same (value-read (a .values .now) labels (a .columns) (a .first) (l .column) h (s .pre .1) p) (value-read (a .values .now) labels (a .columns) (a .second) (l .column) h (s .pre .2) q)))
+
+returns : tie.Need-returns Inv-loop μ-loop
+returns c = λ labels p q.
+    let a = c .before .before .before .before .before .before .before .args in
+    let column = c .before .before .before .before .before .before .loop .column in
+    let e : a .columns - (column + 1) + (column + 1) ≡ a .columns = omega arith in
+    sym (rw e at (differ (a .keys) (column + 1) (a .columns - (column + 1)) _ _ (sym (compared (c .before) labels p q) ∙ not-true _ (c .if2 .taken))))
+
 add-column : tie.Need-add-column Inv-loop μ-loop
 add-column c = omega arith
 
@@ -62,24 +84,17 @@ loop-less c = omega arith
 loop-again : tie.Need-loop-again Inv-loop μ-loop
 unfolding fieldAt
 loop-again c =
-    let a = c .before .before .before .args in
-    let l = c .before .before .loop in
-    let h = c .before .loop-test .taken in (
+    let l = c .before .before .loop in (
       omega arith,
       λ labels p q.
-          let M = cellsOf (a .values .now) labels in
-          let x = rowAt (a .columns) M (a .first) in
-          let y = rowAt (a .columns) M (a .second) in
           ⊎-elim
-          (λ w. w .4 ∙ key-compared (a .keys) (l .column) x y (l .inv .1 labels p q) (eq-eqb _ 1 (w .0 .taken))
-          (w .3 .ensures ∙ ap₂ same (back-is _ (w .1 .given)) (back-is _ (w .2 .given))
-          ∙ sym (ap₂ same (value-read (a .values .now) labels (a .columns) (a .first) (l .column) h (c .before .before .before .pre .1) p) (value-read (a .values .now) labels (a .columns) (a .second) (l .column) h (c .before .before .before .pre .2) q))))
-          (λ w. w .1 ∙ column-passed (a .keys) (l .column) x y (l .inv .1 labels p q) (ne-eqb _ 1 (w .0 .left)))
+          (λ w. sym (not-false _ (w .4 .left)) ∙ compared (record { before = record { before = record { before = record { before = c .before; if1 = w .0 }; same-arg = w .1 }; same-arg2 = w .2 }; same = w .3 }) labels p q)
+          (λ w. column-passed (c .before .before .before .args .keys) (l .column) _ _ (l .inv .1 labels p q) (ne-eqb _ 1 (w .left)))
           (c .if1 .came),
     )
 
-returns : tie.Need-returns Inv-loop μ-loop
-returns c = λ labels p q.
+returns-2 : tie.Need-returns-2 Inv-loop μ-loop
+returns-2 c = λ labels p q.
     let e : c .before .loop .column ≡ c .before .before .args .columns = omega arith in
     rw e at (c .before .loop .inv .1 labels p q)
 
@@ -99,7 +114,8 @@ same-keys-spec =
     mul-same-2
     shared-slice-copy-out-same-2
     same-requires
+    returns
     add-column
     loop-less
     loop-again
-    returns)
+    returns-2)

@@ -33,7 +33,7 @@ same-length-2 : tie.Need-same-length-2
 same-length-2 c = search needs
 
 returns : tie.Need-returns
-returns c =
+returns c = λ leaders chain e.
     let r = c .before .before .before in
     let v = r .before .before .before in
     let l = v .before in
@@ -44,14 +44,14 @@ returns c =
     let M = cellsOf (a .values .now) (a .labels .now) in
     let in-values : Inside (a .g) (length (a .values .now)) = search needs in
     let in-labels : Inside (a .g) (length (a .labels .now)) = search needs in
-    let sum = u .summary .ensures (a .labels .now) in-labels in
-    let group = members (a .g) M (a .leaders .now) (a .row) in
+    let sum = u .summary .ensures leaders (a .labels .now) chain e in-labels in
+    let group = members (a .g) M leaders (a .row) in
     let allowed : Each (Allowed (a .g .column)) (rowsFrom (a .g) M (a .row)) = rw rows-left (each-drop (Allowed (a .g .column)) (a .row) (rowsIn (a .g) M) (p .1 .0)) in
-    let size = size-is (a .g) M (a .leaders .now) (a .row) (u .summary .result) (p .0 .few-rows) (p .1 .1 .0) sum in
+    let size = size-is (a .g) M leaders (a .row) (u .summary .result) (p .0 .few-rows) (p .1 .1 .0) sum in
     let value : v .value-of .result ≡ aggregateValue (a .g .aggregate) (valuesIn (a .g .column) group)
-    = v .value-of .ensures ∙ aggregate-is (a .g) M (a .leaders .now) (a .row) (u .summary .result) (p .0 .few-rows) (p .1 .1 .0) sum in
+    = v .value-of .ensures ∙ aggregate-is (a .g) M leaders (a .row) (u .summary .result) (p .0 .few-rows) (p .1 .1 .0) sum in
     let label : l .group-label .result ≡ composedAfter (aggregateCode (a .g .aggregate)) (length group) 0 (labelsIn (a .g .column) group)
-    = rw size at (l .group-label .ensures (a .values .now) in-values allowed) in
+    = rw size at (l .group-label .ensures leaders (a .values .now) chain e in-values allowed) in
     rw (back-is (v .value-of .result) (v .value-of .ok), value, label) at (r .write-row .ensures)
 
 pub write-group-spec : {M : Type 1} → statement M

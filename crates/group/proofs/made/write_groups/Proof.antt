@@ -7,18 +7,26 @@ use lib.ListN.{length}
 use borrow.Author.Needs.{needs}
 use Rattle.group.specs.Made as made
 use Rattle.group.specs.Members.{Inside}
-use Rattle.group.proofs.Making.{row-fits, Making, none-made, same-rows, row-passed, group-made, all-made}
+use Rattle.group.proofs.Making.{leader-before, row-fits, Making, none-made, same-rows, row-passed, group-made, all-made}
 use Rattle.group.proofs.made.write_groups.Statement.{statement}
 use Rattle.group.proofs.made.write_groups.Tie as tie
 
 abbrev Inv-loop : tie.InvT-loop
-Inv-loop values₀ labels₀ g found rows width count₀ to₀ row₀ values labels count to row = (row ≤ rows) × (rows ≤ 256) × (count ≤ row) × (width ≡ made.width g) × (width ≤ 8) × (to ≡ 6144 + count * width) × (length values ≡ length values₀) × (length labels ≡ length labels₀) × Making g values₀ labels₀ values labels count row
+Inv-loop values₀ labels₀ g found rows next width count₀ to₀ row₀ values labels count to row = (row ≤ rows) × (rows ≤ 256) × (count ≤ row) × (width ≡ made.width g) × (width ≤ 8) × (to ≡ 6144 + count * width) × (length values ≡ length values₀) × (length labels ≡ length labels₀) × Making g values₀ labels₀ values labels count row
 
 abbrev μ-loop : tie.MeasureT-loop
-μ-loop values₀ labels₀ g found rows width count₀ to₀ row₀ values labels count to row = rows - row
+μ-loop values₀ labels₀ g found rows next width count₀ to₀ row₀ values labels count to row = rows - row
 
 leaders-requires : tie.Need-leaders-requires Inv-loop μ-loop
 leaders-requires c κs = search needs
+
+chain-requires : tie.Need-chain-requires Inv-loop μ-loop
+chain-requires c κs =
+    let s = c .before .before .before .before in
+    let a = s .args in
+    let inside : Inside (a .g) (length (a .labels .now)) = search needs in
+    let found = c .before .leaders in
+    (s .pre .0 .few-rows, found .ensures .0, λ row h. omega (arith, s .pre .0 .few-rows, leader-before (a .g) (a .values .now) (a .labels .now) (found .result) (found .ensures .1 (a .labels .now) inside) row h))
 
 key-count-requires : tie.Need-key-count-requires Inv-loop μ-loop
 key-count-requires c κs = omega arith
@@ -28,7 +36,7 @@ add-width c = omega (arith, c .key-count .ensures)
 
 loop-holds : tie.Need-loop-holds Inv-loop μ-loop
 loop-holds c =
-    let s = c .before .before .before .before in
+    let s = c .before .before .before .before .before .before in
     let e : c .key-count .result + 1 ≡ made.width (s .args .g) = ap (λ n. n + 1) (c .key-count .ensures) in
     (omega arith, s .pre .0 .few-rows, omega arith, e, rw e (s .pre .0 .narrow), omega arith, refl, refl, none-made (s .args .g) (s .args .values .now) (s .args .labels .now) (s .pre .0))
 
@@ -40,7 +48,7 @@ array-read-if1 c = omega arith
 
 write-group-requires : tie.Need-write-group-requires Inv-loop μ-loop
 write-group-requires c κs =
-    let s = c .before .before .before .before .before .before .before .before .before .before in
+    let s = c .before .before .before .before .before .before .before .before .before .before .before .before in
     let a = s .args in
     let l = c .before .before .before .before .before .loop in
     let i = l .inv in
@@ -49,7 +57,7 @@ write-group-requires c κs =
       rw (i .6, i .7) (s .pre .0),
       (
         rw (same-rows (a .g) (a .values .now) (a .labels .now) (s .pre .0) (l .values) (l .labels) (l .count) (l .row) (i .8)) (s .pre .1),
-        (h, c .before .before .before .before .before .before .before .leaders .ensures .0, omega arith, rw (← i .3) (omega arith)),
+        (h, c .before .before .before .before .before .before .before .chain .ensures .0, omega arith, rw (← i .3) (omega arith)),
       ),
     )
 
@@ -67,16 +75,17 @@ loop-less c = omega arith
 
 loop-again : tie.Need-loop-again Inv-loop μ-loop
 loop-again c =
-    let s = c .before .before .before .before .before .before .before in
+    let s = c .before .before .before .before .before .before .before .before .before in
     let a = s .args in
     let l = c .before .before .loop in
     let i = l .inv in
     let h = c .before .loop-test .taken in
-    let found = c .before .before .before .before .leaders in
+    let found = c .before .before .before .before .before .before .leaders in
     let inside : Inside (a .g) (length (a .labels .now)) = search needs in
     let known = found .ensures .1 (a .labels .now) inside in
     ⊎-elim
     (λ w.
+    let wrote = w .4 .ensures (found .result) (c .before .before .before .before .chain .ensures .1) (w .0 .taken) in
     let place : l .to ≡ 6144 + l .count * made.width (a .g) = i .5 ∙ ap (λ n. 6144 + l .count * n) (i .3) in (
       omega arith,
       i .1,
@@ -84,9 +93,9 @@ loop-again c =
       i .3,
       i .4,
       rw (w .11, w .10) (omega arith),
-      ap length (w .8) ∙ w .4 .ensures .kept .as-many-values ∙ i .6,
-      ap length (w .9) ∙ w .4 .ensures .kept .as-many-labels ∙ i .7,
-      rw (w .8, w .9, w .10) (group-made (a .g) (a .values .now) (a .labels .now) (s .pre .0) (found .result) known (l .values) (l .labels) (l .count) (l .row) (i .8) h _ _ (w .0 .taken) (rw place at (w .4 .ensures))),
+      ap length (w .8) ∙ wrote .kept .as-many-values ∙ i .6,
+      ap length (w .9) ∙ wrote .kept .as-many-labels ∙ i .7,
+      rw (w .8, w .9, w .10) (group-made (a .g) (a .values .now) (a .labels .now) (s .pre .0) (found .result) known (l .values) (l .labels) (l .count) (l .row) (i .8) h _ _ (w .0 .taken) (rw place at wrote)),
     ))
     (λ w. (
       omega arith,
@@ -109,7 +118,7 @@ same-length-2 c = c .before .loop .inv .7
 
 returns : tie.Need-returns Inv-loop μ-loop
 returns c =
-    let s = c .before .before .before .before .before .before in
+    let s = c .before .before .before .before .before .before .before .before in
     let l = c .before .loop in
     all-made (s .args .g) (s .args .values .now) (s .args .labels .now) (s .pre .0) (l .values) (l .labels) (l .count) (l .row) (l .inv .8) (c .loop-test .left)
 
@@ -120,6 +129,7 @@ write-groups-spec =
     Inv-loop
     μ-loop
     leaders-requires
+    chain-requires
     key-count-requires
     add-width
     loop-holds

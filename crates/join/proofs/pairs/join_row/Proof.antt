@@ -1,15 +1,20 @@
 -- `join::pairs::join_row` meets its contract. The rows of the first right rows are made. Assumes nothing.
-use Prim.Native.Nat.{_+_, _-_, _*_, _≤_}
-use mathlib.Core.Path.{_≡_}
-use native.Mathlib.Nat.{mul-le-mul-right, zero-mul}
+use Prim.Native.Nat.{ℕ, _+_, _-_, _*_, _≤_}
+use mathlib.Core.Path.{_≡_, sym, ap, _∙_}
+use native.Mathlib.Nat.{mul-le-mul-right, zero-mul, add-mul}
 use native.Mathlib.Omega.{arith}
+use lib.IntN.{ℤ, pos}
+use lib.ListN.{getD}
+use Rattle.value.specs.Comparison.{eqZ}
+use Rattle.value.proofs.Machine.{back-is}
 use Rattle.join.proofs.Growing.{none-made}
-use Rattle.join.proofs.Turns.{right-next, rights-over, sides-kept, Paired}
+use Rattle.join.proofs.Turns.{right-next, rights-skipped, rights-over, sides-kept, Paired}
 use Rattle.join.proofs.pairs.join_row.Statement.{statement}
 use Rattle.join.proofs.pairs.join_row.Tie as tie
 
 abbrev Inv-loop : tie.InvT-loop
-Inv-loop values₀ labels₀ left right row made at rows columns count₀ other₀ i₀ values labels count other i = (i ≤ right .rows) × (count ≤ 256) × (other ≡ right .at + i * right .columns) × (at + left .columns ≤ 6144) × Paired left right values₀ labels₀ made at i count values labels
+Inv-loop values₀ labels₀ left right row made at rows columns count₀ other₀ i₀ values labels count other i =
+    (i ≤ right .rows) × (count ≤ 256) × (other ≡ right .at + i * right .columns) × (at + left .columns ≤ 6144) × Paired left right values₀ labels₀ made at i count values labels
 
 abbrev μ-loop : tie.MeasureT-loop
 μ-loop values₀ labels₀ left right row made at rows columns count₀ other₀ i₀ values labels count other i = right .rows - i
@@ -31,23 +36,79 @@ loop-holds c =
       none-made (a .values .now) (a .labels .now) (start .pre .0) (start .pre .1 .1),
     )
 
+add-key : tie.Need-add-key Inv-loop μ-loop
+add-key c = omega (arith, c .before .before .loop .inv .3, c .before .before .before .before .before .before .pre .0 .left-key)
+
+mul-key : tie.Need-mul-key Inv-loop μ-loop
+mul-key c = omega (arith, c .before .before .loop .inv .3, c .before .before .before .before .before .before .pre .0 .left-key)
+
+slice-copy-out-key : tie.Need-slice-copy-out-key Inv-loop μ-loop
+slice-copy-out-key c = omega (arith, c .before .before .loop .inv .3, c .before .before .before .before .before .before .pre .0 .left-key, c .before .before .before .before .before .before .pre .0 .values-room, c .before .before .loop .inv .4 .kept .as-many-values)
+
+add-unlike : tie.Need-add-unlike Inv-loop μ-loop
+add-unlike c = omega (arith, c .before .before .before .before .before .loop .inv .2, mul-le-mul-right (c .before .before .before .before .before .before .before .before .before .args .right .columns) (c .before .before .before .before .loop-test .taken), c .before .before .before .before .before .before .before .before .before .pre .0 .right-below, c .before .before .before .before .before .before .before .before .before .pre .0 .right-key)
+
+sub-unlike : tie.Need-sub-unlike Inv-loop μ-loop
+sub-unlike c = omega (arith, c .before .before .before .before .loop-test .taken)
+
+unlike-requires : tie.Need-unlike-requires Inv-loop μ-loop
+unlike-requires c κs =
+    let start = c .before .before .before .before .before .before .before .before .before in
+    let a = start .args in
+    let loop = c .before .before .before .before .before .loop in
+    let all : loop .i + (a .right .rows - loop .i) ≡ a .right .rows = omega (arith, c .before .before .before .before .loop-test .taken) in
+    let whole = add-mul (loop .i) (a .right .rows - loop .i) (a .right .columns) in
+    let product = ap (λ (n : ℕ). n * a .right .columns) all in (
+      omega (arith, start .pre .0 .few, start .pre .0 .left-key),
+      omega (arith, loop .inv .2, whole, product, start .pre .0 .right-below, start .pre .0 .right-key, start .pre .0 .values-room, loop .inv .4 .kept .as-many-values),
+    )
+
+-- the right rows that are passed over
+few : (c : tie.After-unlike Inv-loop μ-loop) → c .before .before .before .before .before .before .loop .i + c .unlike .result ≤ c .before .before .before .before .before .before .before .before .before .before .args .right .rows
+few c = omega (arith, c .unlike .ensures .0, c .before .before .before .before .before .loop-test .taken)
+
+place-is : (c : tie.After-unlike Inv-loop μ-loop)
+    → c .before .before .before .before .before .before .loop .other + c .unlike .result * c .before .before .before .before .before .before .before .before .before .before .args .right .columns ≡ c .before .before .before .before .before .before .before .before .before .before .args .right .at + (c .before .before .before .before .before .before .loop .i + c .unlike .result) * c .before .before .before .before .before .before .before .before .before .before .args .right .columns
+place-is c = omega (arith, c .before .before .before .before .before .before .loop .inv .2, add-mul (c .before .before .before .before .before .before .loop .i) (c .unlike .result) (c .before .before .before .before .before .before .before .before .before .before .args .right .columns))
+
+skip : (c : tie.After-unlike Inv-loop μ-loop)
+    → let a = c .before .before .before .before .before .before .before .before .before .before .args in
+    let loop = c .before .before .before .before .before .before .loop in
+    Paired (a .left) (a .right) (a .values .now) (a .labels .now) (a .made) (a .left .at + a .row * a .left .columns) (loop .i + c .unlike .result) (loop .count) (loop .values) (loop .labels)
+skip c =
+    let start = c .before .before .before .before .before .before .before .before .before .before in
+    let a = start .args in
+    let loop = c .before .before .before .before .before .before .loop in
+    rights-skipped (a .values .now) (a .labels .now) (start .pre .0) (a .left .at + a .row * a .left .columns) (loop .inv .3) (loop .other) (loop .i) (c .unlike .result) (few c) (loop .inv .2) (loop .inv .4) (loop .inv .1)
+    (λ j h. ap (λ (z : ℤ). eqZ z (getD (loop .values) (loop .other + a .right .key + j * a .right .columns) (pos 0))) (sym (back-is _ (c .before .before .before .key .given))) ∙ c .unlike .ensures .1 j h)
+
+mul-other : tie.Need-mul-other Inv-loop μ-loop
+mul-other c = omega (arith, mul-le-mul-right (c .before .before .before .before .before .before .before .before .before .before .args .right .columns) (few c), add-mul (c .before .before .before .before .before .before .loop .i) (c .unlike .result) (c .before .before .before .before .before .before .before .before .before .before .args .right .columns), c .before .before .before .before .before .before .before .before .before .before .pre .0 .right-below)
+
+add-other : tie.Need-add-other Inv-loop μ-loop
+add-other c = omega (arith, place-is c, mul-le-mul-right (c .before .before .before .before .before .before .before .before .before .before .args .right .columns) (few c), c .before .before .before .before .before .before .before .before .before .before .pre .0 .right-below)
+
+add-i : tie.Need-add-i Inv-loop μ-loop
+add-i c = omega (arith, few c, c .before .before .before .before .before .before .before .before .before .before .pre .0 .right-rows)
+
 join-pair-requires : tie.Need-join-pair-requires Inv-loop μ-loop
 join-pair-requires c κs =
-    let start = c .before .before .before .before .before .before .before in
-    let loop = c .before .before .before .loop in (
-      sides-kept (start .args .values .now) (start .args .labels .now) (start .pre .0) (loop .inv .4 .kept),
-      (loop .inv .3, omega (arith, mul-le-mul-right (start .args .right .columns) (c .before .before .loop-test .taken)), loop .inv .1),
+    let start = c .before .before .before .before .before .before .before .before .before .before .before .before .before in
+    let loop = c .before .before .before .before .before .before .before .before .before .loop in
+    let a = start .args in (
+      sides-kept (a .values .now) (a .labels .now) (start .pre .0) (loop .inv .4 .kept),
+      (loop .inv .3, omega (arith, place-is (c .before .before .before), mul-le-mul-right (a .right .columns) (c .before .before .if1 .taken), start .pre .0 .right-below), loop .inv .1),
     )
 
 -- a turn of the loop
 next : (c : tie.After-join-pair Inv-loop μ-loop)
-    → let a = c .before .before .before .before .before .before .before .before .args in
-    Paired (a .left) (a .right) (a .values .now) (a .labels .now) (a .made) (a .left .at + a .row * a .left .columns) (c .before .before .before .before .loop .i + 1) (c .join-pair .result) (c .join-pair .last .0) (c .join-pair .last .1 .0)
+    → let a = c .before .before .before .before .before .before .before .before .before .before .before .before .before .before .args in
+    Paired (a .left) (a .right) (a .values .now) (a .labels .now) (a .made) (a .left .at + a .row * a .left .columns) (c .before .before .before .before .before .before .before .before .before .before .loop .i + c .before .before .before .before .unlike .result + 1) (c .join-pair .result) (c .join-pair .last .0) (c .join-pair .last .1 .0)
 next c =
-    let start = c .before .before .before .before .before .before .before .before in
+    let start = c .before .before .before .before .before .before .before .before .before .before .before .before .before .before in
     let a = start .args in
-    let loop = c .before .before .before .before .loop in
-    right-next (a .values .now) (a .labels .now) (start .pre .0) (a .left .at + a .row * a .left .columns) (loop .inv .3) (loop .other) (loop .i) (c .before .before .before .loop-test .taken) (loop .inv .2) (loop .inv .4) (loop .inv .1) (c .join-pair .ensures)
+    let loop = c .before .before .before .before .before .before .before .before .before .before .loop in
+    right-next (a .values .now) (a .labels .now) (start .pre .0) (a .left .at + a .row * a .left .columns) (loop .inv .3) (loop .other + c .before .before .before .before .unlike .result * a .right .columns) (loop .i + c .before .before .before .before .unlike .result) (c .before .before .before .if1 .taken) (place-is (c .before .before .before .before)) (skip (c .before .before .before .before)) (loop .inv .1) (c .join-pair .ensures)
 
 same-length : tie.Need-same-length Inv-loop μ-loop
 same-length c = next (c .before .before .before .before) .kept .as-many-values
@@ -57,26 +118,28 @@ same-length-2 c = next (c .before .before .before .before) .kept .as-many-labels
 
 returns : tie.Need-returns Inv-loop μ-loop
 returns c =
-    let start = c .before .before .before .before .before .before .before .before .before .before .before .before in
+    let start = c .before .before .before .before .before .before .before .before .before .before .before .before .before .before .before .before .before .before in
     let a = start .args in
-    let loop = c .before .before .before .before .before .before .before .before .loop in
-    rights-over (a .values .now) (a .labels .now) (start .pre .0) (a .left .at + a .row * a .left .columns) (loop .inv .3) (loop .i + 1) (omega arith) (next (c .before .before .before .before)) (c .if1 .taken)
+    let loop = c .before .before .before .before .before .before .before .before .before .before .before .before .before .before .loop in
+    rights-over (a .values .now) (a .labels .now) (start .pre .0) (a .left .at + a .row * a .left .columns) (loop .inv .3) (loop .i + c .before .before .before .before .before .before .before .before .unlike .result + 1) (omega (arith, c .before .before .before .before .before .before .before .if1 .taken)) (next (c .before .before .before .before)) (c .if2 .taken)
 
-add-other : tie.Need-add-other Inv-loop μ-loop
-add-other c =
-    let start = c .before .before .before .before .before .before .before .before .before .before .before .before in
-    omega (arith, mul-le-mul-right (start .args .right .columns) (c .before .before .before .before .before .before .before .loop-test .taken), start .pre .0 .right-below)
+add-other-2 : tie.Need-add-other-2 Inv-loop μ-loop
+add-other-2 c = omega (arith, place-is (c .before .before .before .before .before .before .before .before), mul-le-mul-right (c .before .before .before .before .before .before .before .before .before .before .before .before .before .before .before .before .before .before .args .right .columns) (c .before .before .before .before .before .before .before .if1 .taken), c .before .before .before .before .before .before .before .before .before .before .before .before .before .before .before .before .before .before .pre .0 .right-below)
 
-add-i : tie.Need-add-i Inv-loop μ-loop
-add-i c = omega (arith, c .before .before .before .before .before .before .before .loop-test .taken)
+add-i-2 : tie.Need-add-i-2 Inv-loop μ-loop
+add-i-2 c = omega (arith, c .before .before .before .before .before .before .before .if1 .taken, c .before .before .before .before .before .before .before .before .before .before .before .before .before .before .before .before .before .before .pre .0 .right-rows)
 
 loop-less : tie.Need-loop-less Inv-loop μ-loop
-loop-less c = omega (arith, c .before .before .before .before .before .before .before .loop-test .taken)
+loop-less c = omega (arith, c .before .before .before .before .before .before .before .if1 .taken)
 
 loop-again : tie.Need-loop-again Inv-loop μ-loop
-loop-again c =
-    let loop = c .before .before .before .before .before .before .before .before .loop in
-    (omega arith, c .if1 .left, omega (arith, loop .inv .2), loop .inv .3, next (c .before .before .before .before))
+loop-again c = (omega (arith, c .before .before .before .before .before .before .before .if1 .taken), c .if2 .left, omega (arith, place-is (c .before .before .before .before .before .before .before .before)), c .before .before .before .before .before .before .before .before .before .before .before .before .before .before .loop .inv .3, next (c .before .before .before .before))
+
+loop-less-2 : tie.Need-loop-less-2 Inv-loop μ-loop
+loop-less-2 c = omega (arith, c .before .before .before .before .before .before .loop-test .taken, c .if1 .left)
+
+loop-again-2 : tie.Need-loop-again-2 Inv-loop μ-loop
+loop-again-2 c = (omega (arith, c .before .unlike .ensures .0, c .before .before .before .before .before .before .loop-test .taken), c .before .before .before .before .before .before .before .loop .inv .1, place-is (c .before), c .before .before .before .before .before .before .before .loop .inv .3, skip (c .before))
 
 same-length-3 : tie.Need-same-length-3 Inv-loop μ-loop
 same-length-3 c = c .before .loop .inv .4 .kept .as-many-values
@@ -98,14 +161,25 @@ join-row-spec =
     mul-at
     add-at
     loop-holds
+    add-key
+    mul-key
+    slice-copy-out-key
+    add-unlike
+    sub-unlike
+    unlike-requires
+    mul-other
+    add-other
+    add-i
     join-pair-requires
     same-length
     same-length-2
     returns
-    add-other
-    add-i
+    add-other-2
+    add-i-2
     loop-less
     loop-again
+    loop-less-2
+    loop-again-2
     same-length-3
     same-length-4
     returns-2)
