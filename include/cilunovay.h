@@ -2,10 +2,10 @@
  *
  * Links with libcilunovay.a (`rt staticlib cilunovay`), for x86-64 Linux.
  *
- * Both functions are proved to do what is said here for every container and
- * every length, and to return. They call only memcpy and memset, keep nothing
- * between calls, and may be called from several threads at once, each with
- * slices of its own.
+ * Both functions are proved to do what stands above them below, for every
+ * container and every length, and to return. Not proved, but seen in the
+ * archive: they call only memcpy and memset and keep nothing between calls, so
+ * that several threads may call them at once, each with slices of its own.
  *
  * Each slice is lent as a pointer and a number of elements. The caller owes, and
  * nothing tests: a pointer is not null, also where the number is 0, is aligned
