@@ -7,15 +7,15 @@ use lib.Dec.{eqb, leb, ltb}
 use Rattle.container.specs.Accepted.{operationExists, OperationsExist}
 use Rattle.container.specs.Contents.{put, stepsFrom, planOf}
 use Rattle.container.specs.Layout.{partOf}
-use Rattle.container.specs.PlanPart.{stepCount, fieldsAt, operandFits, operandOf, amountFits, zeros, when, comparisonOf, aggregateOf, applyBy, byKind, stepOf}
-use Rattle.container.specs.declared.Fields.{Fields}
-use Rattle.container.specs.declared.Found.{Found}
-use Rattle.container.specs.declared.Found.the-variants as found
 use Rattle.label.specs.Discharge.{transformExists}
 use Rattle.plan.specs.Sense.{Each}
 use Rattle.plan.specs.declared.Step.{Step}
 use Rattle.plan.specs.declared.Step.the-variants.{Scan, Union, Join, Filter, Keep, Apply, Group}
 use Rattle.plan.specs.declared.Transform.the-variants.{Add, Sub, Cut, Band}
+use Rattle.records.specs.PlanPart.{stepCount, fieldsAt, operandFits, operandOf, amountFits, zeros, when, comparisonOf, aggregateOf, applyBy, byKind, stepOf}
+use Rattle.records.specs.declared.Fields.{Fields}
+use Rattle.records.specs.declared.Found.{Found}
+use Rattle.records.specs.declared.Found.the-variants as found
 use Rattle.value.specs.Pattern.{signedOf}
 
 -- a step found has its operation

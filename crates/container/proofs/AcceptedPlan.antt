@@ -9,20 +9,21 @@ use lib.Dec.{eqb, leb}
 use lib.ListN.{length, getD, drop, length-drop}
 use borrow.Author.Tests.{leb-true, eqb-true, lt-ltb, not-false}
 use Rattle.container.specs.Accepted.{StepsCounted, StepsFound, Placed, PlanPlaced}
-use Rattle.container.specs.Check.{accepted, checkFound, checkSteps, checkPlan, tableWidths, checkInput}
+use Rattle.container.specs.Check.{accepted, tableWidths, checkInput}
 use Rattle.container.specs.Contents.{stepsFrom, planOf, tablesFrom, tablesOf}
 use Rattle.container.specs.Layout.{partCount, offsetOf, partOf}
-use Rattle.container.specs.PlanPart.{stepCount, lengthFits, fieldsAt, stepOf, stepAt}
 use Rattle.container.specs.TablePart.{tableOf}
-use Rattle.container.specs.declared.Found.{Found}
-use Rattle.container.specs.declared.Found.the-variants as found
 use Rattle.plan.specs.Steps.{takes}
 use Rattle.plan.specs.Widths.{enoughTables, placed, madeColumns}
 use Rattle.plan.specs.declared.Step.{Step}
 use Rattle.plan.specs.declared.Step.the-variants.{Union}
+use Rattle.records.specs.PlanCheck.{checkFound, checkSteps, checkPlan}
+use Rattle.records.specs.PlanPart.{stepCount, lengthFits, fieldsAt, stepOf, stepAt}
+use Rattle.records.specs.declared.Found.{Found}
+use Rattle.records.specs.declared.Found.the-variants as found
 use Rattle.container.proofs.AcceptedTables.{checks}
-use Rattle.container.proofs.Stacks.{enough-room}
-use Rattle.container.proofs.Verdicts.{never, not-so, passed}
+use Rattle.records.proofs.Stacks.{enough-room}
+use Rattle.records.proofs.Verdicts.{never, not-so, passed}
 
 -- the stack after a step with enough tables
 after-low : (step : Step) (stack : List ℕ) (made : ℕ) → length stack ≤ 3 → enoughTables step (length stack) ≡ true → length (made ∷ drop (takes step) stack) ≤ 3

@@ -9,18 +9,19 @@ use lib.ListN.{length, getD, take, drop, length-drop}
 use lib.Seq.{length-take-le}
 use borrow.Author.Tests.{not-false}
 use Rattle.container.specs.Accepted.{TablesCounted, TablesFound, HeaderMeans, Sound, TablesSound}
-use Rattle.container.specs.Check.{accepted, checkContainer, checkDirectory, checkCells, checkTable, checkTables, checkPlan, tableWidths, checkInput}
+use Rattle.container.specs.Check.{accepted, checkContainer, checkDirectory, checkCells, checkTable, checkTables, tableWidths, checkInput}
 use Rattle.container.specs.Contents.{tablesFrom, tablesOf}
 use Rattle.container.specs.Layout.{partCount, offsetOf, partOf}
 use Rattle.container.specs.TablePart.{columnsOf, rowCount, cellCount, headerFits, valuePlace, labelPlace, valueOf, labelOf, cellsFrom, tableOf}
 use Rattle.label.specs.WellFormed.{wellFormed}
 use Rattle.plan.specs.Sense.{Each, Shaped, Small}
 use Rattle.plan.specs.Table.{Cell, Table, noTable, rowsOf}
+use Rattle.records.specs.PlanCheck.{checkPlan}
 use Rattle.value.specs.Range.{inRange}
 use Rattle.container.proofs.CellsRead.{cells-length}
 use Rattle.container.proofs.Directory.{sized}
 use Rattle.container.proofs.Header.{header}
-use Rattle.container.proofs.Verdicts.{both, passed}
+use Rattle.records.proofs.Verdicts.{both, passed}
 
 -- the four checks that an accepted container has passed
 pub record Checks (bytes : List ℕ) : Type 0 where

@@ -6,11 +6,12 @@ use mathlib.Core.List.{List}
 use native.Mathlib.Nat.{sub-zero}
 use native.Mathlib.Numerals.{add-one}
 use native.Mathlib.Omega.{arith}
-use Rattle.container.specs.Check.{accepted, refused, orElse, refuseIf, checkCells}
+use Rattle.container.specs.Check.{accepted, refused, checkCells}
 use Rattle.container.specs.TablePart.{valuePlace, labelPlace, valueOf, labelOf}
 use Rattle.label.specs.WellFormed.{wellFormed}
+use Rattle.records.specs.Verdict.{orElse, refuseIf}
 use Rattle.value.specs.Range.{inRange}
-use Rattle.container.proofs.Lists.{one-left}
+use Rattle.records.proofs.Counts.{one-left}
 
 -- the cells before one are as they should be: what is left of the check
 pub record Cells (part : List ℕ) (at count cell : ℕ) : Type 0 where

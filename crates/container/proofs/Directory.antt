@@ -10,10 +10,12 @@ use lib.Dec.{eqb, leb, ltb}
 use lib.ListN.{length, take, drop}
 use lib.Seq.{take-nil, drop-length}
 use borrow.Author.Tests.{ltb-false, leb-true, eqb-true, not-false, le-leb, eq-eqb, ne-eqb}
-use Rattle.container.specs.Check.{accepted, refused, orElse, refuseIf, checkContainer, checkPairs, checkDirectory}
+use Rattle.container.specs.Check.{accepted, refused, checkContainer, checkPairs, checkDirectory}
 use Rattle.container.specs.Layout.{partCount, pairAt, offsetOf, lengthOf, partOf}
-use Rattle.container.proofs.Lists.{or-false, one-left, clipped}
-use Rattle.container.proofs.Verdicts.{not-so, passed}
+use Rattle.records.specs.Verdict.{orElse, refuseIf}
+use Rattle.container.proofs.Lists.{or-false, clipped}
+use Rattle.records.proofs.Counts.{one-left}
+use Rattle.records.proofs.Verdicts.{not-so, passed}
 
 pub record Sized (bytes : List ℕ) : Type 0 where
   pub short : length bytes ≤ 65536

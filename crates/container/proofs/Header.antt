@@ -6,8 +6,8 @@ use mathlib.Core.List.{List}
 use lib.Dec.{eqb, leb}
 use lib.ListN.{length}
 use borrow.Author.Tests.{leb-true, eqb-true}
-use Rattle.container.specs.Bytes.{byteAt}
 use Rattle.container.specs.TablePart.{columnsOf, rowCount, headerFits}
+use Rattle.little_endian.specs.Bytes.{byteAt}
 
 pub record Header (part : List ℕ) : Type 0 where
   pub some : 1 ≤ columnsOf part

@@ -1,5 +1,5 @@
--- Lists, counts and tests that several proofs meet. Assumes nothing.
-use Prim.Native.Nat.{ℕ, suc, _-_, _≤_, _<_, min}
+-- Lists and tests that several proofs meet. Assumes nothing.
+use Prim.Native.Nat.{ℕ, _-_, _≤_, min}
 use mathlib.Core.Path.{_≡_, refl, sym, _∙_}
 use mathlib.Core.Bool.{Bool, true, false, _||_, true≢false}
 use mathlib.Core.List.{List}
@@ -13,10 +13,6 @@ use borrow.Author.Tests.{leb-true, leb-false}
 pub or-false : (a b : Bool) → (a || b) ≡ false → (a ≡ false) × (b ≡ false)
 or-false true b e = absurd (true≢false e)
 or-false false b e = (refl, e)
-
--- one of what is left, and the rest
-pub one-left : (i n : ℕ) → i < n → n - i ≡ suc (n - suc i)
-one-left i n h = omega arith
 
 -- two tests of which each follows from the other
 pub leb-iff : (a b c d : ℕ) → (a ≤ b → c ≤ d) → (c ≤ d → a ≤ b) → leb a b ≡ leb c d

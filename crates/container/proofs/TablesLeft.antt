@@ -6,13 +6,14 @@ use native.Mathlib.Nat.{add-zero, add-suc, suc-add}
 use native.Mathlib.Numerals.{add-one}
 use native.Mathlib.Omega.{arith}
 use lib.ListN.{length, take}
-use Rattle.container.specs.Check.{accepted, said, orElse, checkTable, checkTables, tableWidths}
+use Rattle.container.specs.Check.{accepted, said, checkTable, checkTables, tableWidths}
 use Rattle.container.specs.Layout.{offsetOf, partOf}
 use Rattle.container.specs.TablePart.{columnsOf}
 use Rattle.container.specs.declared.Check.{Check}
 use Rattle.container.specs.declared.Check.the-variants as check
-use Rattle.container.proofs.Lists.{one-left}
-use Rattle.container.proofs.Verdicts.{Refuses, stands}
+use Rattle.records.specs.Verdict.{orElse}
+use Rattle.container.proofs.Answers.{Refuses, stands}
+use Rattle.records.proofs.Counts.{one-left}
 
 -- the tables before one are as they should be: what is left of the check
 pub record Tables (bytes : List ℕ) (count index : ℕ) : Type 0 where

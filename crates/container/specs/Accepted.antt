@@ -7,9 +7,7 @@ use lib.ListN.{length, getD, drop}
 use Rattle.container.specs.Check.{accepted, checkInput}
 use Rattle.container.specs.Contents.{planOf, tablesOf}
 use Rattle.container.specs.Layout.{partCount, partOf}
-use Rattle.container.specs.PlanPart.{stepCount, stepAt}
 use Rattle.container.specs.TablePart.{columnsOf, rowCount, cellCount, headerFits, tableOf}
-use Rattle.container.specs.declared.Found.the-variants as found
 use Rattle.label.specs.Discharge.{transformExists}
 use Rattle.label.specs.WellFormed.{wellFormed}
 use Rattle.plan.specs.Numbers.{transformCode, digitsOf}
@@ -19,6 +17,8 @@ use Rattle.plan.specs.Table.{Table, noTable}
 use Rattle.plan.specs.Widths.{enoughTables, placed, madeColumns}
 use Rattle.plan.specs.declared.Step.{Step}
 use Rattle.plan.specs.declared.Step.the-variants.{Scan, Union, Join, Filter, Keep, Apply, Group}
+use Rattle.records.specs.PlanPart.{stepCount, stepAt}
+use Rattle.records.specs.declared.Found.the-variants as found
 use Rattle.value.specs.Range.{inRange}
 
 -- 1 to 8 tables

@@ -1,26 +1,18 @@
 -- "Refused because of the input (place: a byte offset)": 11; 12; for each table 13, then for each cell 14, 15; then 16; then for each step 17, 18, 19.
 use Prim.Native.Nat.{ℕ, zero, suc, _+_, _*_, _-_}
-use mathlib.Core.Bool.{Bool, cond, not, _&&_, _||_}
+use mathlib.Core.Bool.{not, _&&_, _||_}
 use mathlib.Core.List.{List, [], _∷_}
 use lib.Dec.{eqb, leb, ltb}
-use lib.ListN.{length, drop}
+use lib.ListN.{length}
 use Rattle.container.specs.Layout.{partCount, pairAt, offsetOf, lengthOf, partOf}
-use Rattle.container.specs.PlanPart.{stepCount, lengthFits, fieldsAt, stepOf}
 use Rattle.container.specs.TablePart.{columnsOf, rowCount, headerFits, valuePlace, labelPlace, valueOf, labelOf}
 use Rattle.container.specs.declared.Check.{Check}
 use Rattle.container.specs.declared.Check.the-variants as check
-use Rattle.container.specs.declared.Found.{Found}
-use Rattle.container.specs.declared.Found.the-variants as found
 use Rattle.label.specs.WellFormed.{wellFormed}
-use Rattle.plan.specs.Steps.{takes}
-use Rattle.plan.specs.Widths.{enoughTables, placed, madeColumns}
-use Rattle.plan.specs.declared.Step.{Step}
+use Rattle.records.specs.PlanCheck.{checkPlan}
+use Rattle.records.specs.Verdict.{orElse, refuseIf}
 use Rattle.value.specs.Range.{inRange}
-
--- document 01's number and place of a refusal
-pub data Verdict : Type 0 where
-  accepted : Verdict
-  refused : ℕ → ℕ → Verdict
+pub use Rattle.records.specs.Verdict.{Verdict, accepted, refused}
 
 -- what each answer of the checks says
 abbrev pub said : Check → Verdict
@@ -34,14 +26,6 @@ said (check.Plan place) = refused 16 place
 said (check.Record place) = refused 17 place
 said (check.Tables place) = refused 18 place
 said (check.Columns place) = refused 19 place
-
--- the first refusal of two
-abbrev pub orElse : Verdict → Verdict → Verdict
-orElse accepted later = later
-orElse (refused number place) later = refused number place
-
-abbrev pub refuseIf : Bool → ℕ → ℕ → Verdict
-refuseIf fact number place = cond fact (refused number place) accepted
 
 -- "11: container too long, too short for its directory, or a wrong part count. Place 0."
 unfoldable pub checkContainer : List ℕ → Verdict
@@ -80,25 +64,6 @@ checkTables bytes part (suc more) = orElse (checkTable (partOf bytes part) (offs
 abbrev pub tableWidths : List ℕ → ℕ → ℕ → List ℕ
 tableWidths bytes part zero = []
 tableWidths bytes part (suc more) = columnsOf (partOf bytes part) ∷ tableWidths bytes (suc part) more
-
--- a step's 18, then its 19, and then the steps after it
-abbrev pub checkStep : Step → ℕ → List ℕ → List ℕ → Verdict → Verdict
-checkStep step place tables stack later =
-    orElse (refuseIf (not (enoughTables step (length stack))) 18 place) (orElse (refuseIf (not (placed step tables stack)) 19 place) later)
-
-abbrev pub checkFound : Found → ℕ → List ℕ → List ℕ → (Step → Verdict) → Verdict
-checkFound (found.Step step) place tables stack later = checkStep step place tables stack (later step)
-checkFound found.Nothing place tables stack later = refused 17 place
-
--- "17 .. 18 .. 19 .. Place: the step. A plan that leaves other than one table gives 18 at the plan's end." The plan part begins at `at`.
-abbrev pub checkSteps : List ℕ → ℕ → ℕ → ℕ → List ℕ → List ℕ → Verdict
-checkSteps part at step zero tables stack = refuseIf (not (eqb (length stack) 1)) 18 (at + 16 * step)
-checkSteps part at step (suc more) tables stack =
-    checkFound (stepOf (fieldsAt part step)) (at + 16 * step) tables stack (λ next.
-    checkSteps part at (suc step) more tables (madeColumns next tables stack ∷ drop (takes next) stack))
-
-unfoldable pub checkPlan : List ℕ → ℕ → List ℕ → Verdict
-checkPlan part at tables = orElse (refuseIf (not (lengthFits part)) 16 at) (checkSteps part at 0 (stepCount part) tables [])
 
 unfoldable pub checkInput : List ℕ → Verdict
 checkInput bytes =

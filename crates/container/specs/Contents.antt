@@ -2,12 +2,12 @@
 use Prim.Native.Nat.{ℕ, zero, suc, _-_}
 use mathlib.Core.List.{List, [], _∷_}
 use Rattle.container.specs.Layout.{partCount, partOf}
-use Rattle.container.specs.PlanPart.{stepCount, fieldsAt, stepOf}
 use Rattle.container.specs.TablePart.{tableOf}
-use Rattle.container.specs.declared.Found.{Found}
-use Rattle.container.specs.declared.Found.the-variants as found
 use Rattle.plan.specs.Table.{Table}
 use Rattle.plan.specs.declared.Step.{Step}
+use Rattle.records.specs.PlanPart.{stepCount, fieldsAt, stepOf}
+use Rattle.records.specs.declared.Found.{Found}
+use Rattle.records.specs.declared.Found.the-variants as found
 
 -- a record without a step adds none
 abbrev pub put : Found → List Step → List Step

@@ -4,7 +4,7 @@ use mathlib.Core.Bool.{cond}
 use mathlib.Core.List.{List, []}
 use lib.Dec.{leb}
 use lib.ListN.{length, take, drop}
-use Rattle.container.specs.Bytes.{numberAt}
+use Rattle.little_endian.specs.Bytes.{numberAt}
 
 abbrev pub partCount : List ℕ → ℕ
 partCount bytes = numberAt bytes 0 2

@@ -5,8 +5,8 @@ use mathlib.Core.List.{List, [], _∷_}
 use lib.Dec.{eqb, leb}
 use lib.IntN.{ℤ}
 use lib.ListN.{length}
-use Rattle.container.specs.Bytes.{numberAt, byteAt}
 use Rattle.container.specs.declared.Shape.{Shape}
+use Rattle.little_endian.specs.Bytes.{numberAt, byteAt}
 use Rattle.plan.specs.Table.{Cell, Table, rowsOf}
 use Rattle.value.specs.Pattern.{signedOf}
 

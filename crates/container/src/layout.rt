@@ -5,8 +5,8 @@ ghost use lib.Dec.{leb};
 ghost use Rattle.container.specs.Check.{said, accepted, checkContainer, checkDirectory};
 ghost use Rattle.container.specs.Layout.{partCount, pairAt, offsetOf, lengthOf, partOf};
 use super::Check;
-use super::bytes::four;
-use super::bytes::two;
+use little_endian::four;
+use little_endian::two;
 
 // How many parts a container says that it has.
 pub fn part_count(container: &[u8]) -> usize

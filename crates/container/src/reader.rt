@@ -7,10 +7,10 @@ ghost use lib.ListN.{length};
 ghost use Rattle.container.specs.Reading.{overwritten, Read};
 ghost use Rattle.container.specs.TablePart.{cellsFrom};
 use super::Reading;
-use super::bytes::four;
 use super::table::cell_count;
 use super::table::shape_of;
 use super::table::value_at;
+use little_endian::four;
 
 // Whether a slice of so many elements has room for `count` of them from a place on.
 fn has_room(len: usize, at: usize, count: usize) -> bool

@@ -3,17 +3,17 @@ ghost use mathlib.Core.Path.{_≡_};
 ghost use Prim.Native.Nat.{_+_, _*_, _^_, _<_};
 ghost use lib.ListN.{length};
 ghost use Rattle.label.specs.WellFormed.{wellFormed};
+ghost use Rattle.little_endian.specs.Bytes.{numberAt};
 ghost use Rattle.value.specs.Pattern.{signedOf};
 ghost use Rattle.value.specs.Range.{inRange};
-ghost use Rattle.container.specs.Bytes.{numberAt};
 ghost use Rattle.container.specs.Check.{said, checkCells, checkTable};
 ghost use Rattle.container.specs.TablePart.{cellCount, headerFits, shapeOf};
 use super::Check;
 use super::Shape;
-use super::bytes::byte;
-use super::bytes::eight;
-use super::bytes::four;
-use super::bytes::two;
+use little_endian::byte;
+use little_endian::eight;
+use little_endian::four;
+use little_endian::two;
 
 // A table's columns and rows, by its header.
 pub fn shape_of(table: &[u8]) -> Shape
@@ -48,7 +48,6 @@ fn header_fits(table: &[u8]) -> bool
 
 // The value at a place.
 pub fn value_at(table: &[u8], place: usize) -> i64
-    requires { ⌜ place + 8 < 2 ^ 64 ⌝ }
     ensures { λ r. ⌜ r ≡ signedOf (numberAt (now (table .entry)) place 8) ⌝ }
 {
     value::pattern::signed(eight(table, place))
@@ -56,7 +55,6 @@ pub fn value_at(table: &[u8], place: usize) -> i64
 
 // Whether the value at a place is in range.
 fn value_fits(table: &[u8], place: usize) -> bool
-    requires { ⌜ place + 8 < 2 ^ 64 ⌝ }
     ensures { λ r. ⌜ r ≡ inRange (signedOf (numberAt (now (table .entry)) place 8)) ⌝ }
 {
     value::range::in_range(value_at(table, place))
@@ -64,7 +62,6 @@ fn value_fits(table: &[u8], place: usize) -> bool
 
 // Whether the label at a place is well-formed.
 fn label_fits(table: &[u8], place: usize) -> bool
-    requires { ⌜ place + 4 < 2 ^ 64 ⌝ }
     ensures { λ r. ⌜ r ≡ wellFormed (numberAt (now (table .entry)) place 4) ⌝ }
 {
     label::well_formed(four(table, place))

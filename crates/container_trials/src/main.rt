@@ -45,7 +45,7 @@ fn answer(bytes: &[u8]) {
 
 fn accepted(bytes: &[u8]) {
     text(b" accepted ");
-    decimal(container::step_count(container::part(bytes, 0)));
+    decimal(records::step_count(container::part(bytes, 0)));
     text(b" ");
     decimal(tables(container::part_count(bytes)));
     text(b"\n");

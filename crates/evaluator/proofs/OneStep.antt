@@ -9,9 +9,6 @@ use lib.ListN.{length}
 use Rattle.container.specs.Check.{accepted, checkInput}
 use Rattle.container.specs.Contents.{planOf, tablesOf}
 use Rattle.container.specs.Layout.{partOf}
-use Rattle.container.specs.PlanPart.{stepAt}
-use Rattle.container.specs.declared.Found.{Found}
-use Rattle.container.specs.declared.Found.the-variants as found
 use Rattle.memory.specs.Cells.{cellsOf}
 use Rattle.memory.specs.Stack.{stackOf}
 use Rattle.memory.specs.Steps.{said, verdict, Done}
@@ -21,10 +18,15 @@ use Rattle.plan.specs.Table.{top}
 use Rattle.plan.specs.Trace.{lineOf}
 use Rattle.plan.specs.Verdict.{fine}
 use Rattle.plan.specs.declared.Step.{Step}
+use Rattle.records.specs.PlanPart.{stepAt}
+use Rattle.records.specs.declared.Found.{Found}
+use Rattle.records.specs.declared.Found.the-variants as found
+use Rattle.step.specs.Taking.{Taken}
 use Rattle.tally.specs.Lines.{withLine}
 use Rattle.evaluator.specs.Steady.{Steady}
 use Rattle.evaluator.specs.Walk.{stepNumber, isMade}
 use Rattle.container.proofs.AcceptedPlan.{steps-counted, steps-found}
+use Rattle.evaluator.proofs.TakenMeaning.{taken-done}
 use Rattle.evaluator.proofs.Walking.{made-fine}
 use Rattle.memory.proofs.Stacks.{Ready, is-ready, stack-length}
 
@@ -40,9 +42,9 @@ module _ (bytes : List ℕ) (index : ℕ) (ok : checkInput bytes ≡ accepted) (
   found-nothing s = let t = there in let z : _≡_ {A = ℕ} 0 1 = cc in omega arith
 
 module _ {bytes : List ℕ} (index : ℕ) {v : List ℤ} {l : List ℕ} {stack : Stack} (s : Steady bytes (stepNumber bytes index) v l stack) {known : Step} (e : known ≡ stepNumber bytes index)
-    {done : Stepped} {v′ : List ℤ} {l′ : List ℕ} (d : Done known (tablesOf bytes) v l stack done v′ l′) where
+    {done : Stepped} {v′ : List ℤ} {l′ : List ℕ} (t : Taken bytes known v l stack done v′ l′) where
   pub done-so : Done (stepNumber bytes index) (tablesOf bytes) v l stack done v′ l′
-  done-so = subst (λ (k : Step). Done k (tablesOf bytes) v l stack done v′ l′) e d
+  done-so = taken-done (stepNumber bytes index) s (subst (λ (k : Step). Taken bytes k v l stack done v′ l′) e t)
 
   module _ (m : isMade (said (done .answer)) ≡ true) where
     allowed : verdict (stepNumber bytes index) (tablesOf bytes) (stackOf (cellsOf v l) stack) ≡ fine

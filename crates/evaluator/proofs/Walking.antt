@@ -12,7 +12,6 @@ use Rattle.container.specs.Accepted.{Placed, operationExists}
 use Rattle.container.specs.Check.{accepted, checkInput}
 use Rattle.container.specs.Contents.{planOf, tablesOf}
 use Rattle.container.specs.Layout.{partOf}
-use Rattle.container.specs.PlanPart.{stepCount}
 use Rattle.memory.specs.Cells.{cellsOf}
 use Rattle.memory.specs.Labelled.{Labelled}
 use Rattle.memory.specs.Stack.{ready, tableAt, tablesTo, stackOf, widthsTo, noTables}
@@ -29,6 +28,7 @@ use Rattle.plan.specs.Verdict.{Verdict, fine, refused, orElse}
 use Rattle.plan.specs.Widths.{enoughTables, placed}
 use Rattle.plan.specs.declared.Step.{Step}
 use Rattle.plan.specs.declared.Step.the-variants.{Union}
+use Rattle.records.specs.PlanPart.{stepCount}
 use Rattle.tally.specs.Lines.{flatLines, withLine}
 use Rattle.evaluator.specs.Finish.{finish}
 use Rattle.evaluator.specs.Monitor.{evaluation, written}

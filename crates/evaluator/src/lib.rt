@@ -2,7 +2,6 @@
 mod line;
 mod monitor;
 mod release;
-mod step;
 mod steps;
 
 use memory::Stack;

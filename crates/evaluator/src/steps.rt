@@ -15,12 +15,11 @@ ghost use Rattle.evaluator.specs.Steady.{Steady};
 ghost use Rattle.evaluator.specs.Walk.{stepNumber, isMade, Walked};
 use super::Ended;
 use super::line;
-use super::step;
-use container::Found;
 use memory::Answer;
 use memory::Stack;
 use memory::Stepped;
 use plan::Step;
+use records::Found;
 
 // Takes the steps of an accepted container's plan, and writes their lines to the trace.
 pub fn run_steps(
@@ -32,7 +31,7 @@ pub fn run_steps(
     requires { ⌜ (checkInput (now container) ≡ accepted) × (8192 ≤ length (now values)) × (8192 ≤ length (now labels)) × (256 ≤ length (now trace)) ⌝ }
     ensures { λ r. ⌜ Walked (now (container .entry)) (now (values .entry)) (now (labels .entry)) (now (trace .entry)) r (now (values .exit)) (now (labels .exit)) (now (trace .exit)) ⌝ }
 {
-    let count = container::step_count(container::part(container, 0));
+    let count = records::step_count(container::part(container, 0));
     let mut stack = memory::no_tables();
     let mut index = 0;
     while index < count {
@@ -82,7 +81,7 @@ fn finish_step(
 fn step_number(container: &[u8], index: usize) -> Step
     ensures { λ r. ⌜ (checkInput (now (container .entry)) ≡ accepted → index < length (planOf (now (container .entry))) → r ≡ stepNumber (now (container .entry)) index) ⌝ }
 {
-    match container::step_at(container::part(container, 0), index) {
+    match records::step_at(container::part(container, 0), index) {
         Found::Step(step) => step,
         Found::Nothing => Step::Union,
     }

@@ -13,7 +13,7 @@ use Rattle.label.specs.Word.{bitAt}
 use Rattle.memory.specs.Cells.{cellsOf}
 use Rattle.plan.specs.Group.{sameKeys}
 use Rattle.plan.specs.Table.{Cell, Row, blank, cellAt}
-use Rattle.value.specs.Comparison.{same}
+use Rattle.comparison.specs.Comparison.{same}
 use Rattle.memory.proofs.CellLaws.{cells-get}
 
 module _ (vs : List ℤ) (ls : List ℕ) (columns place column : ℕ) (h : column < columns) (v : place + columns ≤ length vs) (l : place + columns ≤ length ls) where

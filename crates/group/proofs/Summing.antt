@@ -11,9 +11,9 @@ use Rattle.group.specs.declared.Summary.{Summary}
 use Rattle.plan.specs.Group.{foldedFrom, aggregateValue}
 use Rattle.plan.specs.declared.Aggregate.{Aggregate}
 use Rattle.plan.specs.declared.Aggregate.the-variants.{Count, Sum, Min, Max, Avg}
-use Rattle.value.specs.Aggregate.{smaller, larger, accumulated, exactSum, allInRange, average}
+use Rattle.aggregate.specs.Aggregate.{smaller, larger, accumulated, exactSum, allInRange, average}
 use Rattle.value.specs.Range.{inRange, OVER, settled}
-use Rattle.value.proofs.Laws.Aggregate.{accumulated-all}
+use Rattle.aggregate.proofs.Laws.{accumulated-all}
 
 -- the parts of a summary, each by itself
 pub rows-from : (s : Summary) (vs : List ℤ) → summaryFrom s vs .rows ≡ s .rows + length vs

@@ -7,7 +7,7 @@ use Rattle.group.specs.declared.Summary.{Summary}
 use Rattle.plan.specs.Table.{Row, cellAt}
 use Rattle.plan.specs.declared.Aggregate.{Aggregate}
 use Rattle.plan.specs.declared.Aggregate.the-variants.{Count, Sum, Min, Max, Avg}
-use Rattle.value.specs.Aggregate.{smaller, larger, accumulated, average}
+use Rattle.aggregate.specs.Aggregate.{smaller, larger, accumulated, average}
 use Rattle.value.specs.Range.{inRange, OVER, settled}
 
 -- the values of a column of rows, and the labels

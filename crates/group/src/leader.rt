@@ -7,7 +7,7 @@ ghost use Rattle.plan.specs.Group.{sameKeys};
 ghost use Rattle.memory.specs.Cells.{cellsOf};
 ghost use Rattle.group.specs.Members as spec;
 use crate::Grouping;
-use value::comparison::same;
+use comparison::same;
 
 // For each row the first row with its keys.
 pub fn leaders(values: &[i64], g: Grouping) -> [usize; 256]

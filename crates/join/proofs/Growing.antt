@@ -15,7 +15,8 @@ use Rattle.memory.specs.Cells.{cellsOf, flat, Kept}
 use Rattle.plan.specs.Join.{matches}
 use Rattle.plan.specs.Sense.{Each}
 use Rattle.plan.specs.Table.{Cell, Row, blank, cellAt}
-use Rattle.value.specs.Comparison.{eqZ, equal}
+use Rattle.value.specs.Equality.{eqZ}
+use Rattle.comparison.specs.Comparison.{equal}
 use Rattle.memory.proofs.CellLaws.{cells-length, cells-get, kept-none, kept-then}
 use Rattle.memory.proofs.RowReads.{flat-append, flat-length}
 use Rattle.memory.proofs.Rows.{Wide, rows-wide}

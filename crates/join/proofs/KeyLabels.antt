@@ -20,35 +20,12 @@ use Rattle.memory.specs.declared.Place.the-variants.{At, Nowhere, DoesNotFit}
 use Rattle.plan.specs.Table.{clear}
 use Rattle.plan.specs.Verdict.{Verdict, fine, refused, orElse, refuseIf, firstNotClear, notClear}
 use Rattle.memory.proofs.CellLaws.{le-within}
+use Rattle.memory.proofs.Masks.{one-column}
 use Rattle.memory.proofs.Finish.{says-is, never-unfit}
 use Rattle.memory.proofs.Place.{the-type}
 use Rattle.memory.proofs.Wanted.{search-same}
 use denote.Enum.Declared.{tagOf}
 use types.Run.{OneOf, miss}
-
--- ---- a mask of one column, by a test of each of the eight columns
-
-abbrev allBelow : ℕ → (ℕ → Bool) → Bool
-allBelow zero f = true
-allBelow (suc n) f = f zero && allBelow n (λ k. f (suc k))
-
-below : (n : ℕ) (f : ℕ → Bool) → allBelow n f ≡ true → (k : ℕ) → k < n → f k ≡ true
-below zero f t k h = absurd (not-suc-le-zero h)
-below (suc n) f t zero h = and-eq-true-iff (f zero) _ .0 t .0
-below (suc n) f t (suc k) h = below n (λ i. f (suc i)) (and-eq-true-iff (f zero) _ .0 t .1) k (le-of-suc-le-suc h)
-
-single : ℕ → ℕ → Bool
-single a c = Bool·beq (bitAt (1 * 2 ^ a % 2 ^ 32) c) (eqb c a)
-
-one-column : (a c : ℕ) → a < 8 → c < 8 → bitAt (1 * 2 ^ a % 2 ^ 32) c ≡ eqb c a
-unfolding single fieldAt
-one-column a c h k = alike _ _ (below 8 (single a) (below 8 (λ a. allBelow 8 (single a)) refl a h) c k)
-  where
-    alike : (x y : Bool) → Bool·beq x y ≡ true → x ≡ y
-    alike true true e = refl
-    alike true false e = sym e
-    alike false true e = e
-    alike false false e = refl
 
 -- ---- a search in the key column of a table
 

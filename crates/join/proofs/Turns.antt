@@ -15,7 +15,7 @@ use Rattle.memory.specs.Cells.{cellsOf, Kept}
 use Rattle.plan.specs.Join.{joinedTo, joinedRows}
 use Rattle.plan.specs.Sense.{Each}
 use Rattle.plan.specs.Table.{Cell, Row, Table, rowsOf}
-use Rattle.value.specs.Comparison.{eqZ}
+use Rattle.value.specs.Equality.{eqZ}
 use Rattle.join.proofs.Above.{part-same, cells-same}
 use Rattle.join.proofs.Growing.{keys-differ, unmatched, room, cells-in, rows-in-wide, then-made, over-made}
 use Rattle.join.proofs.Joining.{to-add, rows-add, row-more, fewer, to-joined-wide, rows-joined-wide}

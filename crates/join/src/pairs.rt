@@ -4,11 +4,11 @@ ghost use mathlib.Core.Bool.{false};
 ghost use Prim.Native.Nat.{ℕ, _+_, _-_, _*_, _≤_, _<_};
 ghost use lib.IntN.{pos};
 ghost use lib.ListN.{length, getD};
-ghost use Rattle.value.specs.Comparison.{eqZ};
+ghost use Rattle.value.specs.Equality.{eqZ};
 ghost use Rattle.memory.specs.Cells.{cellsOf, Kept};
 ghost use Rattle.join.specs.Pairs as spec;
 use crate::Side;
-use value::comparison::equal;
+use comparison::equal;
 
 // Makes the rows of all left rows, and answers how many there are: 257 if more than 256.
 pub fn join_rows(values: &mut [i64], labels: &mut [u32], left: Side, right: Side) -> usize

@@ -1,5 +1,5 @@
--- What the proofs share. `Laws` is for the proofs of other crates to cite.
-mod Below
+-- What the proofs share. `Below` and `Laws` are for the proofs of other crates to cite.
+pub mod Below
 mod Composed
 mod Digits
 pub mod Examples

@@ -1,5 +1,6 @@
 -- What the proofs of the steps share, for the step crates to cite.
 pub mod CellLaws
+pub mod Masks
 pub mod Written
 pub mod Rows
 pub mod RowReads

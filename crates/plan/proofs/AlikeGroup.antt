@@ -17,7 +17,7 @@ use Rattle.plan.specs.Table.{Row, Table, blank, cellAt, labelsOf, grid}
 use Rattle.plan.specs.Verdict.{Verdict, fine, refuseIf, firstRow, firstNotClear, notClear}
 use Rattle.plan.specs.declared.Aggregate.{Aggregate}
 use Rattle.plan.specs.declared.Step.{Step}
-use Rattle.value.specs.Comparison.{same}
+use Rattle.comparison.specs.Comparison.{same}
 use Rattle.plan.proofs.Alike.{or-fine, if-fine, Tested, tested, cells-alike, read-same}
 use Rattle.plan.proofs.AlikeFilter.{both-pass}
 use Rattle.plan.proofs.AlikeKeep.{kept-cells-alike}

@@ -10,7 +10,7 @@ use Rattle.plan.specs.Secrecy.{Pairwise, none, more, AlikeRows, AlikeTab
 use Rattle.plan.specs.Table.{Row, Table, cellAt, grid}
 use Rattle.plan.specs.Verdict.{Verdict, fine, firstNotClear, notClear}
 use Rattle.plan.specs.declared.Step.{Step}
-use Rattle.value.specs.Comparison.{equal}
+use Rattle.comparison.specs.Comparison.{equal}
 use Rattle.plan.proofs.Alike.{or-fine, Tested, tested, read-same}
 use Rattle.plan.proofs.Pairs.{both-append, both-take, both-drop, both-cond}
 

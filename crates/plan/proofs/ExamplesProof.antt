@@ -8,9 +8,9 @@ use Rattle.label.specs.Stages.{highest}
 use Rattle.label.specs.WellFormed.{digitsFit, minimumFits, wellFormed}
 use Rattle.label.specs.Word.{fieldAt, packed}
 use Rattle.plan.specs.Examples.{examples}
-use Rattle.value.specs.Aggregate.{exactSum, allInRange, rounded, average}
+use Rattle.aggregate.specs.Aggregate.{exactSum, allInRange, rounded, average}
 use Rattle.value.specs.Arithmetic.{plus, cut, band, floored}
-use Rattle.value.specs.Comparison.{eqZ}
+use Rattle.value.specs.Equality.{eqZ}
 use Rattle.value.specs.Range.{OVER, least, most, inRange, bothInRange, settled, ofBoth}
 
 pub examples-hold : all examples ≡ true

@@ -12,7 +12,7 @@ use Rattle.plan.specs.Sense.{count, countAll, GroupsPartition}
 use Rattle.plan.specs.Table.{Row, cellAt}
 use Rattle.plan.proofs.Bools.{and-true, clash, or-mono}
 use Rattle.plan.proofs.SenseShape.{groups-nonempty}
-use Rattle.value.proofs.Laws.Comparison.{same-sym, same-trans}
+use Rattle.comparison.proofs.Laws.{same-sym, same-trans}
 
 both : (a b : Bool) → a ≡ true → b ≡ true → (a && b) ≡ true
 both true b e f = f

@@ -5,7 +5,7 @@ use Rattle.label.specs.Examples.{Example, row, labelRows}
 use Rattle.plan.specs.Group.{aggregateValue}
 use Rattle.plan.specs.declared.Aggregate.the-variants.{Avg}
 use Rattle.value.specs.Arithmetic.{plus, cut, band}
-use Rattle.value.specs.Comparison.{eqZ}
+use Rattle.value.specs.Equality.{eqZ}
 use Rattle.value.specs.Range.{OVER, least, most}
 
 unfoldable pub examples : List Example

@@ -11,7 +11,7 @@ use Rattle.plan.specs.declared.Comparison.{Comparison}
 use Rattle.plan.specs.declared.Comparison.the-variants.{Equal, Unequal, Less, AtMost, Greater, AtLeast}
 use Rattle.plan.specs.declared.Operand.{Operand}
 use Rattle.plan.specs.declared.Operand.the-variants.{Constant, Column}
-use Rattle.value.specs.Comparison.{equal, unequal, less, atMost, greater, atLeast}
+use Rattle.comparison.specs.Comparison.{equal, unequal, less, atMost, greater, atLeast}
 
 -- the columns that a filter reads
 abbrev pub readBy : ℕ → Operand → ℕ → Bool

@@ -7,7 +7,7 @@ use lib.Dec.{eqb}
 use lib.ListN.{length, take, drop}
 use Rattle.plan.specs.Table.{Row, Table, cellAt}
 use Rattle.plan.specs.Verdict.{Verdict, orElse, notClear}
-use Rattle.value.specs.Comparison.{equal}
+use Rattle.comparison.specs.Comparison.{equal}
 
 -- "31: .. JOIN key .. is not clear. .. Right rows of a JOIN are numbered on from the left."
 unfoldable pub checkJoin : ℕ → ℕ → List (List ℕ) → List (List ℕ) → Verdict

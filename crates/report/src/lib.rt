@@ -19,7 +19,7 @@ pub fn report(container: &[u8]) -> Answer
     let mut output = [0i64; 2048];
     let mut trace = [0u32; 256];
     let answer = evaluator::run(container, &mut values, &mut labels, &mut output, &mut trace);
-    let steps = container::step_count(container::part(container, 0));
+    let steps = records::step_count(container::part(container, 0));
     printed::print(&output, &trace, steps, answer);
     answer
 }

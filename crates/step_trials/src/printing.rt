@@ -1,26 +1,10 @@
-// What a line is made of. Tables are printed as they are written, with every label.
+// What an answer is made of.
 use libc::STDOUT_FILENO;
 use memory::Answer;
 use memory::Place;
 use memory::Stack;
 use memory::Stepped;
-use value::pattern::magnitude;
 use value::range::OVER;
-
-// The tables before a step, after the lengths of slices that are too short.
-pub fn before(values: &[i64], labels: &[u32], stack: Stack) {
-    text(b": ");
-    if values.len() < 8192 {
-        decimal(values.len());
-        text(b" values, ");
-    }
-    if labels.len() < 8192 {
-        decimal(labels.len());
-        text(b" labels, ");
-    }
-    live(values, labels, stack);
-    text(b" gives ");
-}
 
 // The tables after a step, or its refusal.
 pub fn after(values: &[i64], labels: &[u32], stepped: Stepped) {
@@ -38,10 +22,10 @@ pub fn after(values: &[i64], labels: &[u32], stepped: Stepped) {
 fn refused(number: usize, row: usize, column: usize) {
     decimal(number);
     text(b" at ");
-    cell_at(row, column);
+    place_at(row, column);
 }
 
-fn cell_at(row: usize, column: usize) {
+fn place_at(row: usize, column: usize) {
     text(b"row ");
     decimal(row);
     text(b" column ");
@@ -51,48 +35,51 @@ fn cell_at(row: usize, column: usize) {
 // What a search finds.
 pub fn place(found: Place) {
     match found {
-        Place::At(row, column) => cell_at(row, column),
+        Place::At(row, column) => place_at(row, column),
         Place::Nowhere => text(b"nowhere"),
         Place::DoesNotFit => text(b"does not fit"),
     }
 }
 
 // The live tables.
-pub fn live(values: &[i64], labels: &[u32], stack: Stack) {
+fn live(values: &[i64], labels: &[u32], stack: Stack) {
     let depth = stack.depth;
     let rows = stack.rows;
     let columns = stack.columns;
-    if depth == 0 {
-        text(b"no tables");
-    }
-    if 0 < depth {
-        table(values, labels, 0, rows[0], columns[0]);
-    }
-    if 1 < depth {
-        text(b"; ");
-        table(values, labels, 2048, rows[1], columns[1]);
-    }
-    if 2 < depth {
-        text(b"; ");
-        table(values, labels, 4096, rows[2], columns[2]);
-    }
-    if 3 < depth {
-        text(b"; one more");
+    let mut slot = 0;
+    while slot < 3 {
+        if slot < depth {
+            table(values, labels, slot, rows[slot], columns[slot]);
+        }
+        slot += 1;
     }
 }
 
-// A table: of more than eight rows, which have one column, the first and the last, and how many there are.
-fn table(values: &[i64], labels: &[u32], at: usize, rows: usize, columns: usize) {
-    decimal(columns);
-    text(b"|");
-    if rows <= 8 {
-        row_by_row(values, labels, at, rows, columns);
-        return;
+// A table with its columns, of few rows or of many.
+fn table(values: &[i64], labels: &[u32], slot: usize, rows: usize, columns: usize) {
+    if 0 < slot {
+        byte(b';');
+        byte(b' ');
     }
-    text(b" ");
-    cell(values, labels, at);
-    text(b" .. ");
-    cell(values, labels, std::num::wrapping_add_usize(at, rows - 1));
+    decimal(columns);
+    byte(b'|');
+    if rows <= 8 {
+        row_by_row(values, labels, slot << 11, rows, columns);
+    } else {
+        ends(values, labels, slot << 11, rows);
+    }
+}
+
+// Of more than eight rows, which have one column, the first and the last, and how many there are.
+fn ends(values: &[i64], labels: &[u32], at: usize, rows: usize) {
+    cells(values, labels, at, 1);
+    text(b" ..");
+    cells(
+        values,
+        labels,
+        std::num::wrapping_sub_usize(std::num::wrapping_add_usize(at, rows), 1),
+        1,
+    );
     text(b" of ");
     decimal(rows);
     text(b" rows");
@@ -103,7 +90,8 @@ fn row_by_row(values: &[i64], labels: &[u32], at: usize, rows: usize, columns: u
     let mut row = 0;
     while row < rows {
         if 0 < row {
-            text(b" /");
+            byte(b' ');
+            byte(b'/');
         }
         from = cells(values, labels, from, columns);
         row += 1;
@@ -115,7 +103,6 @@ pub fn cells(values: &[i64], labels: &[u32], at: usize, count: usize) -> usize {
     let mut place = at;
     let mut i = 0;
     while i < count {
-        text(b" ");
         cell(values, labels, place);
         place = std::num::wrapping_add_usize(place, 1);
         i += 1;
@@ -124,33 +111,32 @@ pub fn cells(values: &[i64], labels: &[u32], at: usize, count: usize) -> usize {
 }
 
 fn cell(values: &[i64], labels: &[u32], at: usize) {
-    if values.len() <= at {
-        text(b"none");
-        return;
+    byte(b' ');
+    if at < values.len() {
+        if at < labels.len() {
+            value(values[at]);
+            label(labels[at]);
+            return;
+        }
     }
-    if labels.len() <= at {
-        text(b"none");
-        return;
-    }
-    number(values[at]);
-    text(b":");
-    hex(labels[at], 1);
+    text(b"none");
 }
 
 // A value, and OVER as a word.
-pub fn number(value: i64) {
+fn value(value: i64) {
     if value == OVER {
         text(b"OVER");
         return;
     }
     if value < 0 {
-        text(b"-");
+        byte(b'-');
     }
-    io::print_decimal(STDOUT_FILENO, magnitude(value));
+    io::print_decimal(STDOUT_FILENO, value::pattern::magnitude(value));
 }
 
-fn hex(word: u32, digits: usize) {
-    io::print_hex(STDOUT_FILENO, word as u64, digits);
+fn label(label: u32) {
+    byte(b':');
+    io::print_hex(STDOUT_FILENO, label as u64, 1);
 }
 
 pub fn decimal(n: usize) {
@@ -159,4 +145,8 @@ pub fn decimal(n: usize) {
 
 pub fn text(bytes: &[u8]) {
     io::write_all(STDOUT_FILENO, bytes);
+}
+
+pub fn byte(byte: u8) {
+    io::write_all(STDOUT_FILENO, &[byte]);
 }

@@ -19,8 +19,12 @@ pub fn clear_memory(values: &mut [i64], labels: &mut [u32]) -> bool
     let mut i = 0;
     while i < 8192 {
         values[i] = 0;
-        labels[i] = 0;
         i += 1;
+    }
+    let mut j = 0;
+    while j < 8192 {
+        labels[j] = 0;
+        j += 1;
     }
     true
 }

@@ -1,6 +1,6 @@
-mod Integers
-mod Operation
-mod Sizes
+pub mod Integers
+pub mod Operation
+pub mod Sizes
 mod Table
 pub mod Machine
 pub mod Laws

@@ -11,8 +11,8 @@ use mir.Val.{SFits, ofZ, toZ}
 use mir.Facts.{toZ-ofZ}
 use borrow.Author.Needs.{sfits-of}
 use borrow.Author.Tests.{eq-eqb, ne-eqb}
-use Rattle.value.specs.Comparison.{eqZ}
-use Rattle.value.proofs.Laws.Comparison.{eqZ-refl, eqZ-eq}
+use Rattle.value.specs.Equality.{eqZ}
+use Rattle.value.proofs.Laws.Equality.{eqZ-refl, eqZ-eq}
 
 -- a number, written and read back
 abbrev pub back : ℤ → ℤ

@@ -12,7 +12,6 @@ use mir.Val.{SFits}
 use borrow.Author.Tests.{leb-true, le-leb, lt-leb}
 use borrow.Author.Needs.{sfits-of}
 use Rattle.value.specs.Range.{least, most, inRange, bothInRange}
-use Rattle.value.specs.Aggregate.{hasRoom}
 use Rattle.value.proofs.Integers.{mag-plus, mag-minus}
 use Rattle.value.proofs.Laws.Range.{in-both}
 
@@ -21,7 +20,7 @@ and-true true = refl
 and-true false = refl
 
 -- a number from −(n + 1) to n has at most the size n, and the other way round
-between : (n : ℕ) (z : ℤ) → (leZ (negsuc n) z && leZ z (pos n)) ≡ leb (mag z) n
+pub between : (n : ℕ) (z : ℤ) → (leZ (negsuc n) z && leZ z (pos n)) ≡ leb (mag z) n
 between n (pos m) = refl
 between n (negsuc m) = and-true (leb m n)
 
@@ -37,14 +36,6 @@ pub size-out : (v : ℤ) → 2 ^ 47 ≤ mag v → inRange v ≡ false
 unfolding inRange least most
 size-out v h = between (2 ^ 47 - 1) v ∙ lt-leb (mag v) (2 ^ 47 - 1) (omega arith)
 
-pub room-size : (z : ℤ) → hasRoom z ≡ true → mag z < 2 ^ 62
-unfolding hasRoom
-room-size z e = omega (arith, leb-true (mag z) (2 ^ 62 - 1) (sym (between (2 ^ 62 - 1) z) ∙ e))
-
-pub size-room : (z : ℤ) → mag z < 2 ^ 62 → hasRoom z ≡ true
-unfolding hasRoom
-size-room z h = between (2 ^ 62 - 1) z ∙ le-leb (mag z) (2 ^ 62 - 1) (omega arith)
-
 -- sums and differences of values fit 64 bits
 pub sum-fits : (a b : ℤ) → bothInRange a b ≡ true → SFits w64 (a +ℤ b)
 sum-fits a b e =
@@ -55,11 +46,6 @@ pub difference-fits : (a b : ℤ) → bothInRange a b ≡ true → SFits w64 (a 
 difference-fits a b e =
     let h = in-both a b e in
     sfits-of (omega (arith, mag-minus a b (in-size a (h .0)) (in-size b (h .1))))
-
-pub total-fits : (v total : ℤ) → (inRange v && hasRoom total) ≡ true → SFits w64 (total +ℤ v)
-total-fits v total e =
-    let h = and-eq-true-iff (inRange v) (hasRoom total) .0 e in
-    sfits-of (omega (arith, mag-plus total v (room-size total (h .1)) (in-size v (h .0))))
 
 -- what `band` takes off a value fits, and so does what is left
 module _ (k v : ℤ) (e : bothInRange k v ≡ true) where

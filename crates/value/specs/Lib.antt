@@ -1,5 +1,4 @@
 pub mod Range
+pub mod Equality
 pub mod Arithmetic
-pub mod Comparison
-pub mod Aggregate
 pub mod Pattern

@@ -1,36 +1,42 @@
 -- `step_trials::lines` is safe and ends. The measure is what is left of the input. Assumes nothing.
-use Prim.Native.Nat.{_≤_, _-_}
+use Prim.Native.Nat.{_≤_, _-_, _+_}
 use lib.ListN.{length}
 use borrow.Author.Needs.{needs}
 use Rattle.step_trials.proofs.lines.Statement.{statement}
 use Rattle.step_trials.proofs.lines.Tie as tie
 
 abbrev Inv-loop : tie.InvT-loop
-Inv-loop v₀ l₀ c₀ input s₀ i₀ v l c s i = 0 ≤ i
+Inv-loop v₀ l₀ c₀ input from₀ v l c from = 0 ≤ from
 
 abbrev μ-loop : tie.MeasureT-loop
-μ-loop v₀ l₀ c₀ input s₀ i₀ v l c s i = length input - i
-
-whole-requires : tie.Need-whole-requires Inv-loop μ-loop
-whole-requires c κs = search needs
+μ-loop v₀ l₀ c₀ input from₀ v l c from = length input + 1 - from
 
 loop-holds : tie.Need-loop-holds Inv-loop μ-loop
 loop-holds c = search needs
 
-next-requires : tie.Need-next-requires Inv-loop μ-loop
-next-requires c κs = search needs
+until-requires : tie.Need-until-requires Inv-loop μ-loop
+until-requires c κs = search needs
 
-add-i : tie.Need-add-i Inv-loop μ-loop
-add-i c = search needs
+sub-line : tie.Need-sub-line Inv-loop μ-loop
+sub-line c = search needs
+
+part-line-start : tie.Need-part-line-start Inv-loop μ-loop
+part-line-start c = search needs
+
+part-line-end : tie.Need-part-line-end Inv-loop μ-loop
+part-line-end c = search needs
+
+line-requires : tie.Need-line-requires Inv-loop μ-loop
+line-requires c κs = search needs
+
+add-from : tie.Need-add-from Inv-loop μ-loop
+add-from c = search needs
 
 loop-less : tie.Need-loop-less Inv-loop μ-loop
 loop-less c = search needs
 
 loop-again : tie.Need-loop-again Inv-loop μ-loop
 loop-again c = search needs
-
-last-requires : tie.Need-last-requires Inv-loop μ-loop
-last-requires c κs = search needs
 
 returns : tie.Need-returns Inv-loop μ-loop
 returns c = search needs
@@ -41,11 +47,13 @@ lines-spec =
     (tie.spec
     Inv-loop
     μ-loop
-    whole-requires
     loop-holds
-    next-requires
-    add-i
+    until-requires
+    sub-line
+    part-line-start
+    part-line-end
+    line-requires
+    add-from
     loop-less
     loop-again
-    last-requires
     returns)

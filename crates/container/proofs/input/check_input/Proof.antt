@@ -2,7 +2,7 @@
 use mathlib.Core.Path.{_≡_, sym}
 use borrow.Author.Needs.{needs}
 use Rattle.container.specs.Check.{accepted, checkContainer, checkDirectory, checkInput}
-use Rattle.container.proofs.Verdicts.{stands, passes}
+use Rattle.container.proofs.Answers.{stands, passes}
 use Rattle.container.proofs.input.check_input.Statement.{statement}
 use Rattle.container.proofs.input.check_input.Tie as tie
 use denote.Ref.{now}

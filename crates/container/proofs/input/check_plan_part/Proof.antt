@@ -1,6 +1,6 @@
 -- `container::input::check_plan_part` meets its contract. Assumes nothing.
 use Prim.Native.Nat.{_-_}
-use mathlib.Core.Path.{sym}
+use mathlib.Core.Path.{sym, _∙_}
 use native.Mathlib.Omega.{arith}
 use lib.ListN.{length-take}
 use borrow.Author.Needs.{needs}
@@ -70,13 +70,17 @@ slice-aggregate-check-plan c =
 check-plan-requires : tie.Need-check-plan-requires
 check-plan-requires c κs = search needs
 
+of-plan-requires : tie.Need-of-plan-requires
+of-plan-requires c κs = search needs
+
 returns : tie.Need-returns
 returns c =
-    let s = c .before .before .before .before .before .before .before .before in
-    let o = c .before .before .before .before .before .before .part-offset .ensures in
-    let p = part-is (now (s .args .container)) (s .pre .0) (s .pre .1) 0 (omega (arith, few (c .before .before .before .before) .least)) _ _ o
-    (c .before .before .before .before .before .part-length .ensures) in
-    rw (← p, ← o, ← c .before .before .before .before .part-count .ensures, ← c .before .before .before .table-widths .ensures) (c .check-plan .ensures)
+    let s = c .before .before .before .before .before .before .before .before .before in
+    let o = c .before .before .before .before .before .before .before .part-offset .ensures in
+    let p = part-is (now (s .args .container)) (s .pre .0) (s .pre .1) 0 (omega (arith, few (c .before .before .before .before .before) .least)) _ _ o
+    (c .before .before .before .before .before .before .part-length .ensures) in
+    rw (← p, ← o, ← c .before .before .before .before .before .part-count .ensures, ← c .before .before .before .before .table-widths .ensures)
+    (c .of-plan .ensures ∙ c .before .check-plan .ensures)
 
 pub check-plan-part-spec : {M : Type 1} → statement M
 check-plan-part-spec =
@@ -96,4 +100,5 @@ check-plan-part-spec =
     array-share-prefix-widths
     slice-aggregate-check-plan
     check-plan-requires
+    of-plan-requires
     returns)

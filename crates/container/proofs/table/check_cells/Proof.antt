@@ -48,7 +48,7 @@ add-value-place : tie.Need-add-value-place Inv-loop μ-loop Inv-rows μ-rows
 add-value-place c = omega (arith, inside c)
 
 value-fits-requires : tie.Need-value-fits-requires Inv-loop μ-loop Inv-rows μ-rows
-value-fits-requires c κs = omega (arith, inside c)
+value-fits-requires c κs = tt
 
 add-t15 : tie.Need-add-t15 Inv-loop μ-loop Inv-rows μ-rows
 add-t15 c = omega (arith, inside (c .before .before), c .before .before .before .before .before .before .before .pre)
@@ -57,7 +57,7 @@ add-label-place : tie.Need-add-label-place Inv-loop μ-loop Inv-rows μ-rows
 add-label-place c = omega (arith, inside (c .before .before))
 
 label-fits-requires : tie.Need-label-fits-requires Inv-loop μ-loop Inv-rows μ-rows
-label-fits-requires c κs = omega (arith, inside (c .before .before))
+label-fits-requires c κs = tt
 
 add-t16 : tie.Need-add-t16 Inv-loop μ-loop Inv-rows μ-rows
 add-t16 c = omega (arith, inside (c .before .before .before .before), c .before .before .before .before .before .before .before .before .before .pre)

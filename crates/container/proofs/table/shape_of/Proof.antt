@@ -18,7 +18,7 @@ cast-t5 c = search needs
 
 returns : tie.Need-returns
 unfolding shapeOf
-returns c = cc
+returns c = rw (c .two .ensures, c .before .byte .ensures)
 
 pub shape-of-spec : {M : Type 1} → statement M
 shape-of-spec = tie.close (tie.spec byte-requires cast-t3 two-requires cast-t5 returns)

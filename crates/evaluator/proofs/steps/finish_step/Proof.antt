@@ -1,9 +1,6 @@
 -- `evaluator::steps::finish_step` meets its contract. Assumes nothing.
-use mathlib.Core.Path.{sym, subst, _∙_}
+use mathlib.Core.Path.{sym, _∙_}
 use native.Mathlib.Omega.{arith}
-use denote.Ref.{now}
-use Rattle.plan.specs.declared.Step.{Step}
-use Rattle.evaluator.specs.Steady.{Steady}
 use Rattle.evaluator.proofs.LineMeaning.{longer}
 use Rattle.evaluator.proofs.OneStep.{done-so, some-made, still-ready, line-made, line-none}
 use borrow.Author.Needs.{needs}
@@ -14,7 +11,7 @@ step-number-requires : tie.Need-step-number-requires
 step-number-requires c κs = search needs
 
 take-step-requires : tie.Need-take-step-requires
-take-step-requires c κs = subst (λ (k : Step). Steady (now (c .before .before .before .before .before .before .args .container)) k (now (c .before .before .before .before .before .before .args .values)) (now (c .before .before .before .before .before .before .args .labels)) (c .before .before .before .before .before .before .args .stack)) (sym (c .before .before .step-number .ensures (c .before .before .before .before .before .before .pre .2 .accepted-is) (c .before .before .before .before .before .before .pre .0))) (c .before .before .before .before .before .before .pre .2)
+take-step-requires c κs = search needs
 
 is-made-requires : tie.Need-is-made-requires
 is-made-requires c κs = search needs

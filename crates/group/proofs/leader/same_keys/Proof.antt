@@ -12,7 +12,7 @@ use Rattle.group.specs.Members.{rowAt}
 use Rattle.label.specs.Word.{fieldAt}
 use Rattle.memory.specs.Cells.{cellsOf}
 use Rattle.plan.specs.Group.{sameKeys}
-use Rattle.value.specs.Comparison.{same}
+use Rattle.comparison.specs.Comparison.{same}
 use Rattle.group.proofs.Reading.{key-compared, column-passed, differ, value-read}
 use Rattle.value.proofs.Machine.{back-is}
 use Rattle.group.proofs.leader.same_keys.Statement.{statement}

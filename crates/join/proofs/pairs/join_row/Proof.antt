@@ -5,7 +5,7 @@ use native.Mathlib.Nat.{mul-le-mul-right, zero-mul, add-mul}
 use native.Mathlib.Omega.{arith}
 use lib.IntN.{ℤ, pos}
 use lib.ListN.{getD}
-use Rattle.value.specs.Comparison.{eqZ}
+use Rattle.value.specs.Equality.{eqZ}
 use Rattle.value.proofs.Machine.{back-is}
 use Rattle.join.proofs.Growing.{none-made}
 use Rattle.join.proofs.Turns.{right-next, rights-skipped, rights-over, sides-kept, Paired}

@@ -13,7 +13,7 @@ use native.Mathlib.Nat.{mul-le-mul-right, zero-mul}
 use native.Mathlib.Omega.{arith}
 use lib.IntN.{ℤ, pos}
 use lib.ListN.{getD}
-use Rattle.value.specs.Comparison.{eqZ}
+use Rattle.value.specs.Equality.{eqZ}
 use borrow.Author.Needs.{sfits-of}
 use Rattle.join.proofs.pairs.unlike.Statement.{statement}
 use Rattle.join.proofs.pairs.unlike.Tie as tie

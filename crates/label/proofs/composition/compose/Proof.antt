@@ -1,9 +1,8 @@
 -- `label::composition::compose` meets its contract. Assumes nothing.
-use mathlib.Core.Path.{_≡_}
-use mathlib.Core.Bool.{true, false, _&&_}
+use mathlib.Core.Path.{sym, ap₂, _∙_}
+use mathlib.Core.Bool.{_&&_}
 use borrow.Author.Needs.{needs}
 use Rattle.label.specs.Composition.{composeAnswer}
-use Rattle.label.specs.WellFormed.{wellFormed}
 use Rattle.label.proofs.composition.compose.Statement.{statement}
 use Rattle.label.proofs.composition.compose.Tie as tie
 
@@ -18,11 +17,11 @@ composed-requires c κs = search needs
 
 returns : tie.Need-returns
 unfolding composeAnswer
-returns c = let a = c .before .before .before .before .args in let t : (wellFormed (a .left) && wellFormed (a .right)) ≡ true = cc in rw t (cc)
+returns c = rw (sym (ap₂ _&&_ (c .before .before .before .well-formed .ensures) (c .before .before .well-formed2 .ensures)) ∙ c .before .if1 .taken, c .composed .ensures)
 
 returns-2 : tie.Need-returns-2
 unfolding composeAnswer
-returns-2 c = let a = c .before .before .before .args in let t : (wellFormed (a .left) && wellFormed (a .right)) ≡ false = cc in rw t
+returns-2 c = rw (sym (ap₂ _&&_ (c .before .before .well-formed .ensures) (c .before .well-formed2 .ensures)) ∙ c .if1 .left)
 
 pub compose-spec : {M : Type 1} → statement M
 compose-spec =

@@ -40,7 +40,7 @@ pack-requires c κs =
 
 returns : tie.Need-returns
 unfolding composed
-returns c = cc
+returns c = rw (c .pack .ensures, c .before .minimum-both .ensures, c .before .before .digits-both .ensures, c .before .before .before .aggregates-both .ensures, c .before .before .before .before .noise-both .ensures, c .before .before .before .before .before .transforms-both .ensures, c .before .before .before .before .before .before .field2 .ensures, c .before .before .before .before .before .before .before .field .ensures)
 
 pub composed-spec : {M : Type 1} → statement M
 composed-spec =

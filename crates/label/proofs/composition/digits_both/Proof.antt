@@ -33,7 +33,7 @@ merged-requires c κs = search needs
 
 returns : tie.Need-returns
 unfolding digitsBoth
-returns c = cc
+returns c = rw (c .merged .ensures, c .before .bit2 .ensures, c .before .before .bit .ensures, c .before .before .before .digits-with .ensures, c .before .before .before .before .larger .ensures, c .before .before .before .before .before .field4 .ensures, c .before .before .before .before .before .before .field3 .ensures, c .before .before .before .before .before .before .before .field2 .ensures, c .before .before .before .before .before .before .before .before .field .ensures)
 
 pub digits-both-spec : {M : Type 1} → statement M
 digits-both-spec =

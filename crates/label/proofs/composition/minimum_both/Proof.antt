@@ -24,7 +24,7 @@ merged-requires c κs = search needs
 
 returns : tie.Need-returns
 unfolding minimumBoth
-returns c = cc
+returns c = rw (c .merged .ensures, c .before .larger .ensures, c .before .before .bit2 .ensures, c .before .before .before .bit .ensures, c .before .before .before .before .field2 .ensures, c .before .before .before .before .before .field .ensures)
 
 pub minimum-both-spec : {M : Type 1} → statement M
 minimum-both-spec =

@@ -21,7 +21,7 @@ merged-requires c κs = search needs
 
 returns : tie.Need-returns
 unfolding noiseBoth
-returns c = cc
+returns c = rw (c .merged .ensures, c .before .bit2 .ensures, c .before .before .bit .ensures, c .before .before .before .field2 .ensures, c .before .before .before .before .field .ensures)
 
 pub noise-both-spec : {M : Type 1} → statement M
 noise-both-spec =

@@ -15,7 +15,7 @@ field-requires c κs = search needs
 
 returns : tie.Need-returns
 unfolding allowsAggregate enoughRows
-returns c = cc
+returns c = rw (c .field .ensures, c .before .bit .ensures)
 
 pub allows-aggregate-spec : {M : Type 1} → statement M
 allows-aggregate-spec = tie.close (tie.spec add-bit bit-requires field-requires returns)

@@ -15,7 +15,7 @@ field-requires c κs = search needs
 
 returns : tie.Need-returns
 unfolding allowsTransform
-returns c = cc
+returns c = rw (c .field .ensures, c .before .bit .ensures)
 
 pub allows-transform-spec : {M : Type 1} → statement M
 allows-transform-spec = tie.close (tie.spec add-bit bit-requires field-requires returns)

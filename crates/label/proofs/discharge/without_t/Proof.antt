@@ -26,7 +26,7 @@ pack-requires c κs =
 
 returns : tie.Need-returns
 unfolding withoutT
-returns c = cc
+returns c = rw (c .pack .ensures, c .before .field4 .ensures, c .before .before .field3 .ensures, c .before .before .before .field2 .ensures, c .before .before .before .before .field .ensures)
 
 pub without-t-spec : {M : Type 1} → statement M
 without-t-spec =

@@ -7,7 +7,7 @@ field-requires : tie.Need-field-requires
 field-requires c κs = search needs
 
 returns : tie.Need-returns
-returns c = cc
+returns c = rw (c .field .ensures)
 
 pub bit-spec : {M : Type 1} → statement M
 bit-spec = tie.close (tie.spec field-requires returns)

@@ -19,7 +19,7 @@ minimum-fits-requires : tie.Need-minimum-fits-requires
 minimum-fits-requires c κs = search needs
 
 returns : tie.Need-returns
-returns c = cc
+returns c = rw (c .minimum-fits .ensures, c .before .field2 .ensures, c .before .before .bit2 .ensures, c .before .before .before .field .ensures, c .before .before .before .before .bit .ensures)
 
 pub aggregate-fits-spec : {M : Type 1} → statement M
 aggregate-fits-spec =

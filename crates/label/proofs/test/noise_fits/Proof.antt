@@ -10,7 +10,7 @@ field-requires : tie.Need-field-requires
 field-requires c κs = search needs
 
 returns : tie.Need-returns
-returns c = cc
+returns c = rw (c .field .ensures, c .before .bit .ensures)
 
 pub noise-fits-spec : {M : Type 1} → statement M
 noise-fits-spec = tie.close (tie.spec bit-requires field-requires returns)

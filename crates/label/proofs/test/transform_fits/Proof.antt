@@ -19,7 +19,7 @@ digits-fit-requires : tie.Need-digits-fit-requires
 digits-fit-requires c κs = search needs
 
 returns : tie.Need-returns
-returns c = cc
+returns c = rw (c .digits-fit .ensures, c .before .field2 .ensures, c .before .before .bit2 .ensures, c .before .before .before .field .ensures, c .before .before .before .before .bit .ensures)
 
 pub transform-fits-spec : {M : Type 1} → statement M
 transform-fits-spec =

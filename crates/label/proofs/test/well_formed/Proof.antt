@@ -22,7 +22,7 @@ noise-fits-requires c κs = search needs
 
 returns : tie.Need-returns
 unfolding wellFormed
-returns c = rw (lt-ltb _ _ (c .before .before .before .before .before .fits .word .fits)) (cc)
+returns c = rw (lt-ltb _ _ (c .before .before .before .before .before .fits .word .fits), c .noise-fits .ensures, c .before .aggregate-fits .ensures, c .before .before .transform-fits .ensures, c .before .before .before .field2 .ensures, c .before .before .before .before .field .ensures)
 
 pub well-formed-spec : {M : Type 1} → statement M
 well-formed-spec =

@@ -5,19 +5,13 @@ use Rattle.step_trials.proofs.printing.cells.Statement.{statement}
 use Rattle.step_trials.proofs.printing.cells.Tie as tie
 
 abbrev Inv-loop : tie.InvT-loop
-Inv-loop values labels at count place₀ i₀ t7 place i = i ≤ count
+Inv-loop values labels at count place₀ i₀ place i = i ≤ count
 
 abbrev μ-loop : tie.MeasureT-loop
-μ-loop values labels at count place₀ i₀ t7 place i = count - i
+μ-loop values labels at count place₀ i₀ place i = count - i
 
 loop-holds : tie.Need-loop-holds Inv-loop μ-loop
 loop-holds c = search needs
-
-slice-aggregate-text : tie.Need-slice-aggregate-text Inv-loop μ-loop
-slice-aggregate-text c = search needs
-
-text-requires : tie.Need-text-requires Inv-loop μ-loop
-text-requires c κs = search needs
 
 cell-requires : tie.Need-cell-requires Inv-loop μ-loop
 cell-requires c κs = search needs
@@ -44,8 +38,6 @@ cells-spec =
     Inv-loop
     μ-loop
     loop-holds
-    slice-aggregate-text
-    text-requires
     cell-requires
     wrapping-add-usize-requires
     add-i

@@ -5,19 +5,19 @@ use Rattle.step_trials.proofs.printing.row_by_row.Statement.{statement}
 use Rattle.step_trials.proofs.printing.row_by_row.Tie as tie
 
 abbrev Inv-loop : tie.InvT-loop
-Inv-loop values labels at rows columns from₀ row₀ t8 from row = row ≤ rows
+Inv-loop values labels at rows columns from₀ row₀ from row = row ≤ rows
 
 abbrev μ-loop : tie.MeasureT-loop
-μ-loop values labels at rows columns from₀ row₀ t8 from row = rows - row
+μ-loop values labels at rows columns from₀ row₀ from row = rows - row
 
 loop-holds : tie.Need-loop-holds Inv-loop μ-loop
 loop-holds c = search needs
 
-slice-aggregate-text : tie.Need-slice-aggregate-text Inv-loop μ-loop
-slice-aggregate-text c = search needs
+byte-requires : tie.Need-byte-requires Inv-loop μ-loop
+byte-requires c κs = search needs
 
-text-requires : tie.Need-text-requires Inv-loop μ-loop
-text-requires c κs = search needs
+byte-requires-2 : tie.Need-byte-requires-2 Inv-loop μ-loop
+byte-requires-2 c κs = search needs
 
 cells-requires : tie.Need-cells-requires Inv-loop μ-loop
 cells-requires c κs = search needs
@@ -41,8 +41,8 @@ row-by-row-spec =
     Inv-loop
     μ-loop
     loop-holds
-    slice-aggregate-text
-    text-requires
+    byte-requires
+    byte-requires-2
     cells-requires
     add-row
     loop-less

@@ -1,23 +1,29 @@
--- `step_trials::tables::fill` is safe and ends. The measure is what is left of the cells. Assumes nothing.
+-- `step_trials::tables::fill` is safe and ends. The measure is what is left of work memory. Assumes nothing.
 use Prim.Native.Nat.{_≤_, _-_}
 use borrow.Author.Needs.{needs}
 use Rattle.step_trials.proofs.tables.fill.Statement.{statement}
 use Rattle.step_trials.proofs.tables.fill.Tie as tie
 
 abbrev Inv-loop : tie.InvT-loop
-Inv-loop v₀ l₀ t cells i₀ v l i = 0 ≤ i
+Inv-loop v₀ l₀ from value label i₀ v l i = 0 ≤ i
 
 abbrev μ-loop : tie.MeasureT-loop
-μ-loop v₀ l₀ t cells i₀ v l i = cells - i
+μ-loop v₀ l₀ from value label i₀ v l i = 8200 - i
 
 loop-holds : tie.Need-loop-holds Inv-loop μ-loop
 loop-holds c = search needs
 
-wrapping-add-usize-requires : tie.Need-wrapping-add-usize-requires Inv-loop μ-loop
-wrapping-add-usize-requires c κs = search needs
+mul-value : tie.Need-mul-value Inv-loop μ-loop
+mul-value c = search needs
 
-put-requires : tie.Need-put-requires Inv-loop μ-loop
-put-requires c κs = search needs
+element-set-from-value : tie.Need-element-set-from-value Inv-loop μ-loop
+element-set-from-value c = search needs
+
+mul-l : tie.Need-mul-l Inv-loop μ-loop
+mul-l c = search needs
+
+element-write-l : tie.Need-element-write-l Inv-loop μ-loop
+element-write-l c = search needs
 
 add-i : tie.Need-add-i Inv-loop μ-loop
 add-i c = search needs
@@ -38,8 +44,10 @@ fill-spec =
     Inv-loop
     μ-loop
     loop-holds
-    wrapping-add-usize-requires
-    put-requires
+    mul-value
+    element-set-from-value
+    mul-l
+    element-write-l
     add-i
     loop-less
     loop-again

@@ -1,68 +1,96 @@
--- `tally::zeros::clear_memory` meets its contract. Assumes nothing.
-use Prim.Native.Nat.{_-_, _≤_}
+-- `tally::zeros::clear_memory` meets its contract: one loop over each slice. Assumes nothing.
+use Prim.Native.Nat.{ℕ, _+_, _-_, _≤_, _<_}
 use mathlib.Core.Path.{_≡_, refl, sym}
+use mathlib.Core.List.{List}
 use native.Mathlib.Omega.{arith}
 use lib.IntN.{pos}
-use lib.ListN.{length, replicate, length-set}
+use lib.ListN.{length, set, replicate, length-set}
 use borrow.Author.Tests.{lt-leb, le-leb}
 use Rattle.memory.proofs.Written.{Written, nothing-written}
 use Rattle.tally.proofs.Filled.{next-filled, all-filled}
 use Rattle.tally.proofs.zeros.clear_memory.Statement.{statement}
 use Rattle.tally.proofs.zeros.clear_memory.Tie as tie
 
+-- so many elements of a slice are set
+record Filling {A : Type 0} (x : A) (before now : List A) (i : ℕ) : Type 0 where
+  room : 8192 ≤ length before
+  few : i ≤ 8192
+  long : length now ≡ length before
+  written : Written before 0 (replicate i x) now
+
+begins : {A : Type 0} (x : A) (list : List A) → 8192 ≤ length list → Filling x list list 0
+begins x list h = record { room = h; few = omega arith; long = refl; written = nothing-written list 0 (omega arith) }
+
+next : {A : Type 0} {x : A} {before now : List A} {i : ℕ} → Filling x before now i → i < 8192 → Filling x before (set now i x) (i + 1)
+next {x = x} {i = i} f h = record { room = f .room; few = omega arith; long = rw length-set (f .long); written = next-filled i x (f .written) (omega (arith, f .room)) }
+
 abbrev Inv-loop : tie.InvT-loop
-Inv-loop values₀ labels₀ i₀ values labels i =
-    (8192 ≤ length values₀) × (8192 ≤ length labels₀) × (i ≤ 8192) × (length values ≡ length values₀) × (length labels ≡ length labels₀)
-    × Written values₀ 0 (replicate i (pos 0)) values × Written labels₀ 0 (replicate i 0) labels
+Inv-loop values₀ labels i₀ values i = (8192 ≤ length labels) × Filling (pos 0) values₀ values i
 
 abbrev μ-loop : tie.MeasureT-loop
-μ-loop values₀ labels₀ i₀ values labels i = 8192 - i
+μ-loop values₀ labels i₀ values i = 8192 - i
 
-returns : tie.Need-returns Inv-loop μ-loop
+abbrev Inv-loop2 : tie.InvT-loop2
+Inv-loop2 values labels₀ i j₀ labels j = Filling 0 labels₀ labels j
+
+abbrev μ-loop2 : tie.MeasureT-loop2
+μ-loop2 values labels₀ i j₀ labels j = 8192 - j
+
+returns : tie.Need-returns Inv-loop μ-loop Inv-loop2 μ-loop2
 returns c = (rw (lt-leb 8192 _ (c .if1 .taken)), (refl, refl))
 
-returns-2 : tie.Need-returns-2 Inv-loop μ-loop
+returns-2 : tie.Need-returns-2 Inv-loop μ-loop Inv-loop2 μ-loop2
 returns-2 c = (rw (le-leb 8192 _ (c .before .if1 .left), lt-leb 8192 _ (c .if2 .taken)), (refl, refl))
 
-loop-holds : tie.Need-loop-holds Inv-loop μ-loop
-loop-holds c =
-    let a = c .before .before .args in
-    (c .before .if1 .left, c .if2 .left, omega arith, refl, refl, nothing-written (a .values .now) 0 (omega arith), nothing-written (a .labels .now) 0 (omega arith))
+loop-holds : tie.Need-loop-holds Inv-loop μ-loop Inv-loop2 μ-loop2
+loop-holds c = (c .if2 .left, begins (pos 0) _ (c .before .if1 .left))
 
-mul-values : tie.Need-mul-values Inv-loop μ-loop
+mul-values : tie.Need-mul-values Inv-loop μ-loop Inv-loop2 μ-loop2
 mul-values c = omega arith
 
-slice-set-of-values : tie.Need-slice-set-of-values Inv-loop μ-loop
-slice-set-of-values c = omega arith
+slice-set-of-values : tie.Need-slice-set-of-values Inv-loop μ-loop Inv-loop2 μ-loop2
+slice-set-of-values c = omega (arith, c .before .loop .inv .1 .room, c .before .loop .inv .1 .long)
 
-mul-labels : tie.Need-mul-labels Inv-loop μ-loop
-mul-labels c = omega arith
-
-slice-write-labels : tie.Need-slice-write-labels Inv-loop μ-loop
-slice-write-labels c = omega arith
-
-add-i : tie.Need-add-i Inv-loop μ-loop
+add-i : tie.Need-add-i Inv-loop μ-loop Inv-loop2 μ-loop2
 add-i c = omega arith
 
-loop-less : tie.Need-loop-less Inv-loop μ-loop
+loop-less : tie.Need-loop-less Inv-loop μ-loop Inv-loop2 μ-loop2
 loop-less c = omega arith
 
-loop-again : tie.Need-loop-again Inv-loop μ-loop
-loop-again c =
-    let l = c .before .loop in
-    (l .inv .0, l .inv .1, omega arith, rw length-set (l .inv .3), rw length-set (l .inv .4), next-filled (l .i) (pos 0) (l .inv .5) (omega arith), next-filled (l .i) 0 (l .inv .6) (omega arith))
+loop-again : tie.Need-loop-again Inv-loop μ-loop Inv-loop2 μ-loop2
+loop-again c = (c .before .loop .inv .0, next (c .before .loop .inv .1) (c .loop-test .taken))
 
-same-length : tie.Need-same-length Inv-loop μ-loop
-same-length c = c .before .loop .inv .3
+loop2-holds : tie.Need-loop2-holds Inv-loop μ-loop Inv-loop2 μ-loop2
+loop2-holds c = begins 0 _ (c .before .loop .inv .0)
 
-same-length-2 : tie.Need-same-length-2 Inv-loop μ-loop
-same-length-2 c = c .before .loop .inv .4
+mul-labels : tie.Need-mul-labels Inv-loop μ-loop Inv-loop2 μ-loop2
+mul-labels c = omega arith
 
-returns-3 : tie.Need-returns-3 Inv-loop μ-loop
+slice-write-labels : tie.Need-slice-write-labels Inv-loop μ-loop Inv-loop2 μ-loop2
+slice-write-labels c = omega (arith, c .before .loop2 .inv .room, c .before .loop2 .inv .long)
+
+add-j : tie.Need-add-j Inv-loop μ-loop Inv-loop2 μ-loop2
+add-j c = omega arith
+
+loop2-less : tie.Need-loop2-less Inv-loop μ-loop Inv-loop2 μ-loop2
+loop2-less c = omega arith
+
+loop2-again : tie.Need-loop2-again Inv-loop μ-loop Inv-loop2 μ-loop2
+loop2-again c = next (c .before .loop2 .inv) (c .loop2-test .taken)
+
+same-length : tie.Need-same-length Inv-loop μ-loop Inv-loop2 μ-loop2
+same-length c = c .before .before .before .loop .inv .1 .long
+
+same-length-2 : tie.Need-same-length-2 Inv-loop μ-loop Inv-loop2 μ-loop2
+same-length-2 c = c .before .loop2 .inv .long
+
+returns-3 : tie.Need-returns-3 Inv-loop μ-loop Inv-loop2 μ-loop2
 returns-3 c =
-    let l = c .before .loop in
-    let e : l .i ≡ 8192 = omega arith in
-    (sym (rw (le-leb 8192 _ (l .inv .0), le-leb 8192 _ (l .inv .1))), (all-filled (l .i) 8192 (pos 0) (l .inv .5) e, all-filled (l .i) 8192 0 (l .inv .6) e))
+    let l = c .before .before .before .loop in
+    let m = c .before .loop2 in
+    let i : l .i ≡ 8192 = omega (arith, l .inv .1 .few, c .before .before .loop-test .left) in
+    let j : m .j ≡ 8192 = omega (arith, m .inv .few, c .loop2-test .left) in
+    (sym (rw (le-leb 8192 _ (l .inv .1 .room), le-leb 8192 _ (m .inv .room))), (all-filled (l .i) 8192 (pos 0) (l .inv .1 .written) i, all-filled (m .j) 8192 0 (m .inv .written) j))
 
 pub clear-memory-spec : {M : Type 1} → statement M
 clear-memory-spec =
@@ -70,16 +98,22 @@ clear-memory-spec =
     (tie.spec
     Inv-loop
     μ-loop
+    Inv-loop2
+    μ-loop2
     returns
     returns-2
     loop-holds
     mul-values
     slice-set-of-values
-    mul-labels
-    slice-write-labels
     add-i
     loop-less
     loop-again
+    loop2-holds
+    mul-labels
+    slice-write-labels
+    add-j
+    loop2-less
+    loop2-again
     same-length
     same-length-2
     returns-3)

@@ -8,10 +8,10 @@ use native.Mathlib.Omega.{arith}
 use lib.IntN.{ℤ, pos}
 use lib.ListN.{length, getD}
 use borrow.Author.Needs.{needs}
-use Rattle.value.specs.Comparison.{eqZ}
+use Rattle.value.specs.Equality.{eqZ}
 use Rattle.value.proofs.Machine.{back}
 use Rattle.value.proofs.Table.{every, at}
-use Rattle.value.proofs.Laws.Comparison.{eqZ-eq}
+use Rattle.value.proofs.Laws.Equality.{eqZ-eq}
 use Rattle.value.proofs.arithmetic.power.Statement.{statement}
 use Rattle.value.proofs.arithmetic.power.Tie as tie
 

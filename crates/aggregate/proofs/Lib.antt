@@ -1,0 +1,3 @@
+-- The laws, for the proofs of other crates to cite, and what they share.
+pub mod Laws
+mod Room

@@ -1,0 +1,20 @@
+-- `aggregate::larger` meets its contract.
+-- Assumes nothing.
+use mir.Facts.{toZ-ofZ}
+use borrow.Author.Needs.{needs}
+use Rattle.aggregate.specs.Aggregate.{larger}
+use Rattle.value.proofs.Machine.{back-is}
+use Rattle.aggregate.proofs.larger.Statement.{statement}
+use Rattle.aggregate.proofs.larger.Tie as tie
+
+chosen-requires : tie.Need-chosen-requires
+chosen-requires c κs = search needs
+
+returns : tie.Need-returns
+unfolding larger
+returns c =
+    let f = c .before .fits in
+    rw (back-is (c .chosen .result) (c .chosen .ok)) (rw (toZ-ofZ (f .a), toZ-ofZ (f .b)) at (c .chosen .ensures))
+
+pub larger-spec : {M : Type 1} → statement M
+larger-spec = tie.close (tie.spec chosen-requires returns)

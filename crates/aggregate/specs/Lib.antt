@@ -1,0 +1,2 @@
+-- Aggregates of values.
+pub mod Aggregate

@@ -1,0 +1,80 @@
+// What the aggregates of a group are made of.
+ghost use mathlib.Core.Path.{_≡_};
+ghost use mathlib.Core.Bool.{cond};
+ghost use Prim.Native.Nat.{_<_};
+ghost use Rattle.value.specs.Range.{ofBoth};
+ghost use Rattle.aggregate.specs.Aggregate.{smaller, larger, hasRoom, accumulated, rounded, average};
+use value::range::OVER;
+use value::range::both_in_range;
+use value::range::in_range;
+use value::range::settled;
+
+// The first or the second of two values.
+fn chosen(first: bool, a: i64, b: i64) -> i64
+    ensures { λ r. ⌜ r ≡ ofBoth a b (cond first a b) ⌝ }
+{
+    if both_in_range(a, b) {
+        if first { a } else { b }
+    } else {
+        OVER
+    }
+}
+
+// The smaller of two values.
+pub fn smaller(a: i64, b: i64) -> i64
+    ensures { λ r. ⌜ r ≡ smaller a b ⌝ }
+{
+    chosen(a <= b, a, b)
+}
+
+// The larger of two values.
+pub fn larger(a: i64, b: i64) -> i64
+    ensures { λ r. ⌜ r ≡ larger a b ⌝ }
+{
+    chosen(b <= a, a, b)
+}
+
+// -2^62.
+const LEAST_SUM: i64 = -0x4000_0000_0000_0000;
+
+// 2^62 - 1.
+const MOST_SUM: i64 = 0x3fff_ffff_ffff_ffff;
+
+// Whether any value can be added to a sum in 64 bits.
+fn has_room(total: i64) -> bool
+    ensures { λ r. ⌜ r ≡ hasRoom total ⌝ }
+{
+    (LEAST_SUM <= total) & (total <= MOST_SUM)
+}
+
+// A running sum with one value more. It stays where the number is out of range or the sum has no room.
+pub fn accumulated(total: i64, v: i64) -> i64
+    ensures { λ r. ⌜ r ≡ accumulated total v ⌝ }
+{
+    if in_range(v) & has_room(total) {
+        total + v
+    } else {
+        total
+    }
+}
+
+// An exact sum divided by the rows, rounded toward minus infinity.
+fn rounded(total: i64, rows: u32) -> i64
+    requires { ⌜ 0 < rows ⌝ }
+    ensures { λ r. ⌜ r ≡ rounded total rows ⌝ }
+{
+    let n = rows as i64;
+    let q = total / n;
+    if total % n < 0 { q - 1 } else { q }
+}
+
+// The average of rows with an exact sum. No rows give OVER.
+pub fn average(total: i64, rows: u32) -> i64
+    ensures { λ r. ⌜ r ≡ average total rows ⌝ }
+{
+    if 0 < rows {
+        settled(rounded(total, rows))
+    } else {
+        OVER
+    }
+}

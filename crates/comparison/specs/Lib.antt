@@ -1,0 +1,2 @@
+-- Comparisons of values.
+pub mod Comparison

@@ -1,0 +1,5 @@
+-- What the proofs share.
+mod FilterLoop
+mod FilterMeaning
+mod RowLaws
+mod Widths

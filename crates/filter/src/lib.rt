@@ -1,0 +1,4 @@
+// The step FILTER over work memory.
+mod filtering;
+
+pub use filtering::filter;

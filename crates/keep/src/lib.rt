@@ -1,0 +1,4 @@
+// The step KEEP over work memory.
+mod keeping;
+
+pub use keeping::keep;

@@ -1,0 +1,151 @@
+-- `step::taking::take_step` meets its contract. Assumes nothing.
+use denote.Ref.{now}
+use Rattle.container.specs.Contents.{tablesOf}
+use borrow.Author.Needs.{needs}
+use Rattle.step.proofs.taking.take_step.Statement.{statement}
+use Rattle.step.proofs.taking.take_step.Tie as tie
+
+enum-known-step : tie.Need-enum-known-step
+enum-known-step c = search needs
+
+scan-requires : tie.Need-scan-requires
+scan-requires c κs = search needs
+
+enum-told : tie.Need-enum-told
+enum-told c = search needs
+
+union-requires : tie.Need-union-requires
+union-requires c κs = search needs
+
+enum-known-step-2 : tie.Need-enum-known-step-2
+enum-known-step-2 c = search needs
+
+join-requires : tie.Need-join-requires
+join-requires c κs = search needs
+
+enum-known-step-3 : tie.Need-enum-known-step-3
+enum-known-step-3 c = search needs
+
+filter-requires : tie.Need-filter-requires
+filter-requires c κs = search needs
+
+enum-known-step-4 : tie.Need-enum-known-step-4
+enum-known-step-4 c = search needs
+
+keep-requires : tie.Need-keep-requires
+keep-requires c κs = search needs
+
+enum-known-step-5 : tie.Need-enum-known-step-5
+enum-known-step-5 c = search needs
+
+apply-requires : tie.Need-apply-requires
+apply-requires c κs = search needs
+
+enum-known-step-6 : tie.Need-enum-known-step-6
+enum-known-step-6 c = search needs
+
+group-requires : tie.Need-group-requires
+group-requires c κs = search needs
+
+same-length : tie.Need-same-length
+same-length c = search needs
+
+same-length-2 : tie.Need-same-length-2
+same-length-2 c = search needs
+
+returns : tie.Need-returns
+returns c = record { promise = rw (c .before .before .before .before .before .before .before .step .given .1) (c .before .before .before .scan .ensures) }
+
+same-length-3 : tie.Need-same-length-3
+same-length-3 c = search needs
+
+same-length-4 : tie.Need-same-length-4
+same-length-4 c = search needs
+
+returns-2 : tie.Need-returns-2
+returns-2 c = record { promise = rw (c .before .before .before .before .before .before .enum-told .given .1) (c .before .before .before .union .ensures (tablesOf (now (c .before .before .before .before .before .before .before .before .before .before .args .container)))) }
+
+same-length-5 : tie.Need-same-length-5
+same-length-5 c = search needs
+
+same-length-6 : tie.Need-same-length-6
+same-length-6 c = search needs
+
+returns-3 : tie.Need-returns-3
+returns-3 c = record { promise = rw (c .before .before .before .before .before .before .before .step2 .given .1) (c .before .before .before .join .ensures (tablesOf (now (c .before .before .before .before .before .before .before .before .before .before .before .args .container)))) }
+
+same-length-7 : tie.Need-same-length-7
+same-length-7 c = search needs
+
+same-length-8 : tie.Need-same-length-8
+same-length-8 c = search needs
+
+returns-4 : tie.Need-returns-4
+returns-4 c = record { promise = rw (c .before .before .before .before .before .before .before .step3 .given .1) (c .before .before .before .filter .ensures (tablesOf (now (c .before .before .before .before .before .before .before .before .before .before .before .args .container)))) }
+
+same-length-9 : tie.Need-same-length-9
+same-length-9 c = search needs
+
+same-length-10 : tie.Need-same-length-10
+same-length-10 c = search needs
+
+returns-5 : tie.Need-returns-5
+returns-5 c = record { promise = rw (c .before .before .before .before .before .before .before .step4 .given .1) (c .before .before .before .keep .ensures (tablesOf (now (c .before .before .before .before .before .before .before .before .before .before .before .args .container)))) }
+
+same-length-11 : tie.Need-same-length-11
+same-length-11 c = search needs
+
+same-length-12 : tie.Need-same-length-12
+same-length-12 c = search needs
+
+returns-6 : tie.Need-returns-6
+returns-6 c = record { promise = rw (c .before .before .before .before .before .before .before .step5 .given .1) (c .before .before .before .apply .ensures (tablesOf (now (c .before .before .before .before .before .before .before .before .before .before .before .args .container)))) }
+
+same-length-13 : tie.Need-same-length-13
+same-length-13 c = search needs
+
+same-length-14 : tie.Need-same-length-14
+same-length-14 c = search needs
+
+returns-7 : tie.Need-returns-7
+returns-7 c = record { promise = rw (c .before .before .before .before .before .before .before .step6 .given .1) (c .before .before .before .group .ensures (tablesOf (now (c .before .before .before .before .before .before .before .before .before .before .before .args .container)))) }
+
+pub take-step-spec : {M : Type 1} → statement M
+take-step-spec =
+    tie.close
+    (tie.spec
+    enum-known-step
+    scan-requires
+    enum-told
+    union-requires
+    enum-known-step-2
+    join-requires
+    enum-known-step-3
+    filter-requires
+    enum-known-step-4
+    keep-requires
+    enum-known-step-5
+    apply-requires
+    enum-known-step-6
+    group-requires
+    same-length
+    same-length-2
+    returns
+    same-length-3
+    same-length-4
+    returns-2
+    same-length-5
+    same-length-6
+    returns-3
+    same-length-7
+    same-length-8
+    returns-4
+    same-length-9
+    same-length-10
+    returns-5
+    same-length-11
+    same-length-12
+    returns-6
+    same-length-13
+    same-length-14
+    returns-7)

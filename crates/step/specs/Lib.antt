@@ -1,0 +1,2 @@
+-- One step of a plan over work memory.
+pub mod Taking

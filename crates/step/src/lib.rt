@@ -1,0 +1,4 @@
+// One step of a plan over work memory.
+mod taking;
+
+pub use taking::take_step;

@@ -1,0 +1,55 @@
+-- `step_trials::reading::numeral` is safe and ends. The measure is what is left of the text. Assumes nothing.
+use Prim.Native.Nat.{_≤_, _-_}
+use lib.ListN.{length}
+use borrow.Author.Needs.{needs}
+use Rattle.step_trials.proofs.reading.numeral.Statement.{statement}
+use Rattle.step_trials.proofs.reading.numeral.Tie as tie
+
+abbrev Inv-loop : tie.InvT-loop
+Inv-loop text at base n₀ i₀ n i = 0 ≤ i
+
+abbrev μ-loop : tie.MeasureT-loop
+μ-loop text at base n₀ i₀ n i = length text - i
+
+loop-holds : tie.Need-loop-holds Inv-loop μ-loop
+loop-holds c = search needs
+
+shared-slice-read-digit : tie.Need-shared-slice-read-digit Inv-loop μ-loop
+shared-slice-read-digit c = search needs
+
+digit-requires : tie.Need-digit-requires Inv-loop μ-loop
+digit-requires c κs = search needs
+
+with-digit-requires : tie.Need-with-digit-requires Inv-loop μ-loop
+with-digit-requires c κs = search needs
+
+add-i : tie.Need-add-i Inv-loop μ-loop
+add-i c = search needs
+
+loop-less : tie.Need-loop-less Inv-loop μ-loop
+loop-less c = search needs
+
+loop-again : tie.Need-loop-again Inv-loop μ-loop
+loop-again c = search needs
+
+returns : tie.Need-returns Inv-loop μ-loop
+returns c = search needs
+
+returns-2 : tie.Need-returns-2 Inv-loop μ-loop
+returns-2 c = search needs
+
+pub numeral-spec : {M : Type 1} → statement M
+numeral-spec =
+    tie.close
+    (tie.spec
+    Inv-loop
+    μ-loop
+    loop-holds
+    shared-slice-read-digit
+    digit-requires
+    with-digit-requires
+    add-i
+    loop-less
+    loop-again
+    returns
+    returns-2)

@@ -1,0 +1,4 @@
+// The step UNION over work memory.
+mod uniting;
+
+pub use uniting::union;

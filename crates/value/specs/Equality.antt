@@ -1,0 +1,12 @@
+-- Equality of numbers.
+-- Assumes nothing.
+use mathlib.Core.Bool.{Bool, false}
+use lib.Dec.{eqb}
+use lib.IntN.{ℤ, pos, negsuc}
+
+-- Whether two numbers are one.
+unfoldable pub eqZ : ℤ → ℤ → Bool
+eqZ (pos a) (pos b) = eqb a b
+eqZ (pos a) (negsuc b) = false
+eqZ (negsuc a) (pos b) = false
+eqZ (negsuc a) (negsuc b) = eqb a b
