@@ -1,3 +1,4 @@
+-- What the proofs share. All but `Table` are for the proofs of other crates to cite.
 pub mod Integers
 pub mod Operation
 pub mod Sizes

@@ -1,3 +1,4 @@
+-- Values. These files are what a reader must believe.
 pub mod Range
 pub mod Equality
 pub mod Arithmetic

@@ -1,6 +1,6 @@
 -- `evaluator::steps::run_steps` meets its contract. Assumes nothing.
 use borrow.Author.Needs.{needs}
-use Prim.Native.Nat.{_-_, _≤_}
+use Prim.Native.Nat.{_-_, _≤_, _<_}
 use mathlib.Core.Path.{_≡_, refl, sym, _∙_}
 use native.Mathlib.Omega.{arith}
 use denote.Ref.{now}
@@ -29,12 +29,20 @@ no-tables-requires : tie.Need-no-tables-requires Inv-loop μ-loop
 no-tables-requires c κs = search needs
 
 loop-holds : tie.Need-loop-holds Inv-loop μ-loop
-loop-holds c = (omega arith, count-is (now (c .before .before .before .before .before .before .args .container)) (c .before .before .before .before .before .before .pre .0) (c .before .before .part .ensures) (c .before .step-count .ensures) .0, go-begin (c .before .before .before .before .before .before .pre .0) (c .before .before .before .before .before .before .pre .1) (c .before .before .before .before .before .before .pre .2) (c .no-tables .ensures), refl)
+loop-holds c =
+    let s = c .before .before .before .before .before .before in
+    (omega arith, count-is (now (s .args .container)) (s .pre .0) (c .before .before .part .ensures) (c .before .step-count .ensures) .0, go-begin (s .pre .0) (s .pre .1) (s .pre .2) (c .no-tables .ensures), refl)
+
+-- the loop is at a step of the plan
+inside : (c : tie.In-loop Inv-loop μ-loop) → c .before .loop .index < length (planOf (now (c .before .before .before .before .before .before .before .before .args .container)))
+inside c = omega (arith, c .loop-test .taken, c .before .loop .inv .1)
 
 finish-step-requires : tie.Need-finish-step-requires Inv-loop μ-loop
 finish-step-requires c κs =
-    let g = c .before .before .before .before .loop .inv .2 in
-    ((omega (arith, c .before .before .before .loop-test .taken, c .before .before .before .before .loop .inv .1)), go-room (c .before .before .before .before .before .before .before .before .before .before .before .pre .0) g (omega (arith, c .before .before .before .loop-test .taken, c .before .before .before .before .loop .inv .1)) (c .before .before .before .before .before .before .before .before .before .before .before .pre .3), go-steady (c .before .before .before .before .before .before .before .before .before .before .before .pre .0) g (omega (arith, c .before .before .before .loop-test .taken, c .before .before .before .before .loop .inv .1)))
+    let i = c .before .before .before in
+    let s = i .before .before .before .before .before .before .before .before in
+    let g = i .before .loop .inv .2 in
+    (inside i, go-room (s .pre .0) g (inside i) (s .pre .3), go-steady (s .pre .0) g (inside i))
 
 is-made-requires : tie.Need-is-made-requires Inv-loop μ-loop
 is-made-requires c κs = search needs
@@ -50,21 +58,28 @@ same-length-3 c = search needs
 
 returns : tie.Need-returns Inv-loop μ-loop
 returns c =
-    go-refused (c .before .before .before .before .before .before .before .before .before .before .before .before .before .before .before .before .before .before .before .pre .0) (c .before .before .before .before .before .before .before .before .before .before .before .before .loop .inv .2) (omega (arith, c .before .before .before .before .before .before .before .before .before .before .before .loop-test .taken, c .before .before .before .before .before .before .before .before .before .before .before .before .loop .inv .1)) (c .before .before .before .before .before .before .before .finish-step .ensures .0) _ _ (sym (c .before .is-made .ensures) ∙ not-true _ (c .if1 .taken)) (c .before .before .before .before .before .before .before .finish-step .ensures .1)
+    let i = c .before .before .before .before .before .before .before .before .before .before .before in
+    let d = c .before .before .before .before .before .before .before .finish-step .ensures in
+    go-refused (i .before .before .before .before .before .before .before .before .pre .0) (i .before .loop .inv .2) (inside i) (d .0) _ _ (sym (c .before .is-made .ensures) ∙ not-true _ (c .if1 .taken)) (d .1)
 
 add-index : tie.Need-add-index Inv-loop μ-loop
-add-index c = omega (arith, c .before .before .before .before .before .before .before .before .before .before .before .before .loop-test .taken, count-is (now (c .before .before .before .before .before .before .before .before .before .before .before .before .before .before .before .before .before .before .before .before .args .container)) (c .before .before .before .before .before .before .before .before .before .before .before .before .before .before .before .before .before .before .before .before .pre .0) (c .before .before .before .before .before .before .before .before .before .before .before .before .before .before .before .before .part .ensures) (c .before .before .before .before .before .before .before .before .before .before .before .before .before .before .before .step-count .ensures) .1)
+add-index c =
+    let i = c .before .before .before .before .before .before .before .before .before .before .before .before in
+    let s = i .before .before .before .before .before .before .before .before in
+    omega (arith, i .loop-test .taken, count-is (now (s .args .container)) (s .pre .0) (i .before .before .before .before .part .ensures) (i .before .before .before .step-count .ensures) .1)
 
 loop-less : tie.Need-loop-less Inv-loop μ-loop
 loop-less c = omega (arith, c .before .before .before .before .before .before .before .before .before .before .before .before .loop-test .taken)
 
 loop-again : tie.Need-loop-again Inv-loop μ-loop
-loop-again c = (
-  omega (arith, c .before .before .before .before .before .before .before .before .before .before .before .before .loop-test .taken),
-  c .before .before .before .before .before .before .before .before .before .before .before .before .before .loop .inv .1,
-  go-on (c .before .before .before .before .before .before .before .before .before .before .before .before .before .before .before .before .before .before .before .before .pre .0) (c .before .before .before .before .before .before .before .before .before .before .before .before .before .loop .inv .2) (omega (arith, c .before .before .before .before .before .before .before .before .before .before .before .before .loop-test .taken, c .before .before .before .before .before .before .before .before .before .before .before .before .before .loop .inv .1)) (c .before .before .before .before .before .before .before .before .finish-step .ensures .0) _ (sym (c .before .before .is-made .ensures) ∙ not-false _ (c .before .if1 .left)) (c .before .before .before .before .before .before .before .before .finish-step .ensures .1),
-  search needs,
-)
+loop-again c =
+    let i = c .before .before .before .before .before .before .before .before .before .before .before .before in
+    let d = c .before .before .before .before .before .before .before .before .finish-step .ensures in (
+      omega (arith, i .loop-test .taken),
+      i .before .loop .inv .1,
+      go-on (i .before .before .before .before .before .before .before .before .pre .0) (i .before .loop .inv .2) (inside i) (d .0) _ (sym (c .before .before .is-made .ensures) ∙ not-false _ (c .before .if1 .left)) (d .1),
+      search needs,
+    )
 
 same-length-4 : tie.Need-same-length-4 Inv-loop μ-loop
 same-length-4 c = search needs

@@ -41,8 +41,9 @@ mul-at c = omega (arith, (filter-parts _ (c .before .before .before .before .bef
 
 read-by-requires : tie.Need-read-by-requires
 read-by-requires c κs =
-    let parts = filter-parts _ (c .before .before .before .before .before .before .before .args .comparison) _ [] _ _ _ (sym (c .before .before .before .before .before .filter-fits .ensures (c .before .before .before .before .before .before .before .args .comparison) []) ∙ not-false _ (c .before .before .before .before .if1 .left)) in
-    (omega (arith, parts .below, parts .narrow), operand-more (c .before .before .before .before .before .before .before .args .operand) _ 8 (parts .narrow) (parts .operand-below))
+    let a = c .before .before .before .before .before .before .before .args in
+    let parts = filter-parts _ (a .comparison) _ [] _ _ _ (sym (c .before .before .before .before .before .filter-fits .ensures (a .comparison) []) ∙ not-false _ (c .before .before .before .before .if1 .left)) in
+    (omega (arith, parts .below, parts .narrow), operand-more (a .operand) _ 8 (parts .narrow) (parts .operand-below))
 
 not-clear-requires : tie.Need-not-clear-requires
 not-clear-requires c κs = search needs
@@ -78,8 +79,9 @@ enum-told-2 c = search needs
 
 filter-rows-requires : tie.Need-filter-rows-requires
 filter-rows-requires c κs =
-    let parts = filter-parts _ (c .before .before .before .before .before .before .before .before .before .before .before .before .before .args .comparison) _ [] _ _ _ (sym (c .before .before .before .before .before .before .before .before .before .before .before .filter-fits .ensures (c .before .before .before .before .before .before .before .before .before .before .before .before .before .args .comparison) []) ∙ not-false _ (c .before .before .before .before .before .before .before .before .before .before .if1 .left)) in
-    (top-inside (now (c .before .before .before .before .before .before .before .before .before .before .before .before .before .args .values)) (now (c .before .before .before .before .before .before .before .before .before .before .before .before .before .args .labels)) _ (parts .is-ready) (parts .some), (parts .below, parts .operand-below))
+    let a = c .before .before .before .before .before .before .before .before .before .before .before .before .before .args in
+    let parts = filter-parts _ (a .comparison) _ [] _ _ _ (sym (c .before .before .before .before .before .before .before .before .before .before .before .filter-fits .ensures (a .comparison) []) ∙ not-false _ (c .before .before .before .before .before .before .before .before .before .before .if1 .left)) in
+    (top-inside (now (a .values)) (now (a .labels)) _ (parts .is-ready) (parts .some), (parts .below, parts .operand-below))
 
 with-table-requires : tie.Need-with-table-requires
 with-table-requires c κs = search needs

@@ -50,8 +50,7 @@ add-result c =
 returns-3 : tie.Need-returns-3
 unfolding enoughTables columnsExist madeColumns
 returns-3 c =
-    let s = c .before .before .before .before .before in
-    let a = s .args in
+    let a = c .before .before .before .before .before .args in
     let some = c .before .before .if2 .left in
     λ aggregate tables. rw (sym (c .before .before .before .before .ready .ensures) ∙ not-false _ (c .before .before .before .if1 .left), le-leb 1 (a .stack .depth) some, width-top (a .stack) (a .stack .depth) some, mask-fits (a .keys) _, c .key-count .ensures)
 

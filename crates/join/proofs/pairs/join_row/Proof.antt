@@ -46,7 +46,9 @@ slice-copy-out-key : tie.Need-slice-copy-out-key Inv-loop μ-loop
 slice-copy-out-key c = omega (arith, c .before .before .loop .inv .3, c .before .before .before .before .before .before .pre .0 .left-key, c .before .before .before .before .before .before .pre .0 .values-room, c .before .before .loop .inv .4 .kept .as-many-values)
 
 add-unlike : tie.Need-add-unlike Inv-loop μ-loop
-add-unlike c = omega (arith, c .before .before .before .before .before .loop .inv .2, mul-le-mul-right (c .before .before .before .before .before .before .before .before .before .args .right .columns) (c .before .before .before .before .loop-test .taken), c .before .before .before .before .before .before .before .before .before .pre .0 .right-below, c .before .before .before .before .before .before .before .before .before .pre .0 .right-key)
+add-unlike c =
+    let s = c .before .before .before .before .before .before .before .before .before in
+    omega (arith, c .before .before .before .before .before .loop .inv .2, mul-le-mul-right (s .args .right .columns) (c .before .before .before .before .loop-test .taken), s .pre .0 .right-below, s .pre .0 .right-key)
 
 sub-unlike : tie.Need-sub-unlike Inv-loop μ-loop
 sub-unlike c = omega (arith, c .before .before .before .before .loop-test .taken)
@@ -83,7 +85,10 @@ skip c =
     (λ j h. ap (λ (z : ℤ). eqZ z (getD (loop .values) (loop .other + a .right .key + j * a .right .columns) (pos 0))) (sym (back-is _ (c .before .before .before .key .given))) ∙ c .unlike .ensures .1 j h)
 
 mul-other : tie.Need-mul-other Inv-loop μ-loop
-mul-other c = omega (arith, mul-le-mul-right (c .before .before .before .before .before .before .before .before .before .before .args .right .columns) (few c), add-mul (c .before .before .before .before .before .before .loop .i) (c .unlike .result) (c .before .before .before .before .before .before .before .before .before .before .args .right .columns), c .before .before .before .before .before .before .before .before .before .before .pre .0 .right-below)
+mul-other c =
+    let s = c .before .before .before .before .before .before .before .before .before .before in
+    let a = s .args in
+    omega (arith, mul-le-mul-right (a .right .columns) (few c), add-mul (c .before .before .before .before .before .before .loop .i) (c .unlike .result) (a .right .columns), s .pre .0 .right-below)
 
 add-other : tie.Need-add-other Inv-loop μ-loop
 add-other c = omega (arith, place-is c, mul-le-mul-right (c .before .before .before .before .before .before .before .before .before .before .args .right .columns) (few c), c .before .before .before .before .before .before .before .before .before .before .pre .0 .right-below)
@@ -124,7 +129,9 @@ returns c =
     rights-over (a .values .now) (a .labels .now) (start .pre .0) (a .left .at + a .row * a .left .columns) (loop .inv .3) (loop .i + c .before .before .before .before .before .before .before .before .unlike .result + 1) (omega (arith, c .before .before .before .before .before .before .before .if1 .taken)) (next (c .before .before .before .before)) (c .if2 .taken)
 
 add-other-2 : tie.Need-add-other-2 Inv-loop μ-loop
-add-other-2 c = omega (arith, place-is (c .before .before .before .before .before .before .before .before), mul-le-mul-right (c .before .before .before .before .before .before .before .before .before .before .before .before .before .before .before .before .before .before .args .right .columns) (c .before .before .before .before .before .before .before .if1 .taken), c .before .before .before .before .before .before .before .before .before .before .before .before .before .before .before .before .before .before .pre .0 .right-below)
+add-other-2 c =
+    let s = c .before .before .before .before .before .before .before .before .before .before .before .before .before .before .before .before .before .before in
+    omega (arith, place-is (c .before .before .before .before .before .before .before .before), mul-le-mul-right (s .args .right .columns) (c .before .before .before .before .before .before .before .if1 .taken), s .pre .0 .right-below)
 
 add-i-2 : tie.Need-add-i-2 Inv-loop μ-loop
 add-i-2 c = omega (arith, c .before .before .before .before .before .before .before .if1 .taken, c .before .before .before .before .before .before .before .before .before .before .before .before .before .before .before .before .before .before .pre .0 .right-rows)

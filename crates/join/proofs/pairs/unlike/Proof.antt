@@ -62,12 +62,13 @@ loop-less : tie.Need-loop-less Inv-loop μ-loop
 loop-less c = omega (arith, c .before .before .loop-test .taken)
 
 loop-again : tie.Need-loop-again Inv-loop μ-loop
-loop-again c = (
-  omega (arith, c .before .before .loop-test .taken),
-  omega (arith, c .before .before .before .loop .inv .1),
-  one-more (λ j. eqZ (toZ w64 (ofZ w64 (c .before .before .before .before .args .key))) (getD (c .before .before .before .before .args .values .now) (c .before .before .before .before .args .place + j * c .before .before .before .before .args .step) (pos 0)) ≡ false) (c .before .before .before .loop .i) (c .before .before .before .loop .inv .2)
-      (ap (λ (n : ℕ). eqZ (toZ w64 (ofZ w64 (c .before .before .before .before .args .key))) (getD (c .before .before .before .before .args .values .now) n (pos 0))) (sym (c .before .before .before .loop .inv .1)) ∙ as-bits (c .before .before .before .before .args .key) (getD (c .before .before .before .before .args .values .now) (c .before .before .before .loop .at) (pos 0)) (c .before .before .before .before .fits .key) (sfits-of (c .before .is-key .given)) (c .if1 .left)),
-)
+loop-again c =
+    let a = c .before .before .before .before .args in (
+      omega (arith, c .before .before .loop-test .taken),
+      omega (arith, c .before .before .before .loop .inv .1),
+      one-more (λ j. eqZ (toZ w64 (ofZ w64 (a .key))) (getD (a .values .now) (a .place + j * a .step) (pos 0)) ≡ false) (c .before .before .before .loop .i) (c .before .before .before .loop .inv .2)
+          (ap (λ (n : ℕ). eqZ (toZ w64 (ofZ w64 (a .key))) (getD (a .values .now) n (pos 0))) (sym (c .before .before .before .loop .inv .1)) ∙ as-bits (a .key) (getD (a .values .now) (c .before .before .before .loop .at) (pos 0)) (c .before .before .before .before .fits .key) (sfits-of (c .before .is-key .given)) (c .if1 .left)),
+    )
 
 returns-2 : tie.Need-returns-2 Inv-loop μ-loop
 returns-2 c = (omega arith, λ j h. as-key _ _ (c .before .before .fits .key) (c .before .loop .inv .2 j (omega (arith, c .loop-test .left))))

@@ -114,15 +114,16 @@ returns-8 c = rw (kind-is (c .before .before .before .before .args .f) 7 (c .bef
 returns-9 : tie.Need-returns-9
 unfolding stepOf
 returns-9 c =
+    let a = c .before .before .before .args in
     rw (
       eq-eqb _ 0 (c .before .if1 .left),
-      ne-eqb (c .before .before .before .args .f .kind) 1 (c .match .rest .0 .0 .0 .0 .0 .0 .1),
-      ne-eqb (c .before .before .before .args .f .kind) 2 (c .match .rest .0 .0 .0 .0 .0 .1),
-      ne-eqb (c .before .before .before .args .f .kind) 3 (c .match .rest .0 .0 .0 .0 .1),
-      ne-eqb (c .before .before .before .args .f .kind) 4 (c .match .rest .0 .0 .0 .1),
-      ne-eqb (c .before .before .before .args .f .kind) 5 (c .match .rest .0 .0 .1),
-      ne-eqb (c .before .before .before .args .f .kind) 6 (c .match .rest .0 .1),
-      ne-eqb (c .before .before .before .args .f .kind) 7 (c .match .rest .1),
+      ne-eqb (a .f .kind) 1 (c .match .rest .0 .0 .0 .0 .0 .0 .1),
+      ne-eqb (a .f .kind) 2 (c .match .rest .0 .0 .0 .0 .0 .1),
+      ne-eqb (a .f .kind) 3 (c .match .rest .0 .0 .0 .0 .1),
+      ne-eqb (a .f .kind) 4 (c .match .rest .0 .0 .0 .1),
+      ne-eqb (a .f .kind) 5 (c .match .rest .0 .0 .1),
+      ne-eqb (a .f .kind) 6 (c .match .rest .0 .1),
+      ne-eqb (a .f .kind) 7 (c .match .rest .1),
     )
 
 pub step-of-spec : {M : Type 1} → statement M

@@ -23,7 +23,9 @@ part-requires : tie.Need-part-requires
 part-requires c κs = search needs
 
 mul-read-cells : tie.Need-mul-read-cells
-mul-read-cells c = omega (arith, (scan-parts (now (c .before .before .before .before .before .before .before .args .container)) (c .before .before .before .before .before .before .before .args .table) _ _ (c .before .before .before .before .before .before .before .args .stack) (sym (c .before .before .before .before .scan-fits .ensures .0) ∙ not-false _ (c .before .before .before .if1 .left))) .room)
+mul-read-cells c =
+    let a = c .before .before .before .before .before .before .before .args in
+    omega (arith, (scan-parts (now (a .container)) (a .table) _ _ (a .stack) (sym (c .before .before .before .before .scan-fits .ensures .0) ∙ not-false _ (c .before .before .before .if1 .left))) .room)
 
 read-cells-requires : tie.Need-read-cells-requires
 read-cells-requires c κs = search needs
