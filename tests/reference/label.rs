@@ -42,6 +42,12 @@ fn bit(word: u32, place: u32) -> bool {
     word / (1u32 << place) % 2 == 1
 }
 
+/// The stages that a word has, well-formed or not, in falling order: "Bit 31: H
+/// present", "Bit 30: T", "Bit 29: A", "Bit 28: N".
+pub fn present(word: u32) -> [bool; 4] {
+    [bit(word, 31), bit(word, 30), bit(word, 29), bit(word, 28)]
+}
+
 impl Label {
     /// Reads a word; `None` if it is ill-formed.
     pub fn from_word(word: u32) -> Option<Label> {

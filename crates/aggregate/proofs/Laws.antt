@@ -8,13 +8,14 @@ use Prim.Native.Nat.{ℕ, _*_, _^_, _≤_, _<_}
 use native.Mathlib.Nat.{div-lt-iff-lt-mul}
 use native.Mathlib.Omega.{arith}
 use lib.Dec.{ltb, lit≤}
-use lib.IntN.{ℤ, pos, natAbs, _+ℤ_, _*ℤ_, +ℤ-idr, +ℤ-idl, +ℤ-one, +ℤ-assoc}
+use lib.IntN.{ℤ, pos, natAbs, _+ℤ_, +ℤ-idr, +ℤ-idl, +ℤ-one, +ℤ-assoc}
 use lib.ListN.{length, length-append}
-use lib.Signed.{mag, leZ, shrZ, _≤ℤ_, _<ℤ_, natAbs-le, ≤ℤ-refl, leZ-yes}
+use lib.Signed.{mag, leZ, shrZ, _≤ℤ_, natAbs-le, ≤ℤ-refl, leZ-yes}
 use borrow.Author.Tests.{lt-ltb}
 use Rattle.value.specs.Range.{inRange, bothInRange, OVER, settled}
 use Rattle.value.specs.Arithmetic.{floored}
 use Rattle.aggregate.specs.Aggregate.{smaller, larger, exactSum, allInRange, hasRoom, accumulated, rounded, average}
+use Rattle.aggregate.specs.Sentences.{Floored}
 use Rattle.value.proofs.Integers.{so, leZ-other, mag-plus, mag-down, mag-natAbs, down-below, down-above}
 use Rattle.value.proofs.Sizes.{in-size, size-in}
 use Rattle.aggregate.proofs.Room.{size-room}
@@ -145,16 +146,11 @@ pub average-result : (total : ℤ) (rows : ℕ) → Result (average total rows)
 unfolding average
 average-result total rows = guarded (ltb 0 rows) (settled (rounded total rows)) (λ e. settled-result (rounded total rows))
 
--- q is the largest whole number not above v / n
-pub record Floor (n : ℕ) (v q : ℤ) : Type 0 where
-  pub below : (pos n *ℤ q) ≤ℤ v
-  pub above : v <ℤ (pos n *ℤ (q +ℤ pos 1))
-
-pub rounded-floor : (total : ℤ) (rows : ℕ) → 0 < rows → Floor rows total (rounded total rows)
+pub rounded-floor : (total : ℤ) (rows : ℕ) → 0 < rows → Floored rows total (rounded total rows)
 unfolding rounded floored
 rounded-floor total rows p = record { below = down-below total p; above = rw +ℤ-one (down-above total p) }
 
-pub average-floor : (total : ℤ) (rows : ℕ) → 0 < rows → inRange (average total rows) ≡ true → Floor rows total (average total rows)
+pub average-floor : (total : ℤ) (rows : ℕ) → 0 < rows → inRange (average total rows) ≡ true → Floored rows total (average total rows)
 unfolding average
 average-floor total rows p e =
     rw (lt-ltb 0 rows p, settled-exact (rounded total rows) (rw (lt-ltb 0 rows p) at e)) (rounded-floor total rows p)

@@ -1,2 +1,3 @@
 -- Aggregates of values.
 pub mod Aggregate
+pub mod Sentences

@@ -9,10 +9,10 @@ use native.Mathlib.Omega.{arith}
 use lib.ListN.{getD, take, drop}
 use lib.Seq.{drop-drop, getD-take, getD-drop}
 use borrow.Author.Tests.{ltb-true}
-use Rattle.memory.specs.Labelled.{columnFormed}
+use Rattle.cells.specs.promises.Labelled.{columnFormed}
 use Rattle.label.specs.Discharge.{forbidsT}
 use Rattle.label.specs.WellFormed.{wellFormed}
-use Rattle.memory.specs.Cells.{gridOf}
+use Rattle.cells.specs.promises.Cells.{gridOf}
 use Rattle.plan.specs.Apply.{operandClear, secondClear, applyRow}
 use Rattle.plan.specs.Table.{clear}
 use Rattle.plan.specs.Verdict.{orElse, refuseIf, firstRow}

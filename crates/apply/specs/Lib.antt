@@ -1,4 +1,2 @@
--- What APPLY promises of the slices and the stack, and its parts of each other.
-pub mod Fits
-pub mod Done
-pub mod Making
+-- The step APPLY over work memory. Nothing here is to be believed: `promises` has what the crates promise one another.
+pub mod promises

@@ -1,5 +1,4 @@
 // The step APPLY over work memory. It tests every row first, makes its table in the last slot and moves it to the top table's place.
-mod fitting;
 mod labelling;
 mod making;
 mod refusing;

@@ -1,16 +1,21 @@
-// The new table, made in the last slot, which begins at place 6,144, and moved from there.
+// The new table, made in the last slot and moved from there.
 ghost use mathlib.Core.Path.{_≡_};
 ghost use mathlib.Core.Bool.{true};
-ghost use Prim.Native.Nat.{_+_, _-_, _*_, _≤_, _<_};
-ghost use lib.ListN.{length, getD, drop};
+ghost use Prim.Native.Nat.{_+_, _-_, _≤_, _<_};
+ghost use lib.ListN.{length, getD};
+ghost use Rattle.cells.specs.promises.Cells.{flat};
+ghost use Rattle.cells.specs.promises.Labelled.{columnFormed};
+ghost use Rattle.cells.specs.promises.Work.{work, room};
+ghost use Rattle.cells.specs.promises.Written.{Put};
+ghost use Rattle.kinds.specs.promises.Operations.{operationFits};
 ghost use Rattle.label.specs.WellFormed.{wellFormed};
-ghost use Rattle.plan.specs.Widths.{operandFits, transformFits};
+ghost use Rattle.memory.specs.promises.Stack.{lastSlot, labelsIn, Inside, RowsAt};
 ghost use Rattle.plan.specs.Apply.{appliedRow};
-ghost use Rattle.memory.specs.Cells.{cellsOf, flat, gridOf};
-ghost use Rattle.apply.specs.Fits.{operationFits};
-ghost use Rattle.memory.specs.Labelled.{columnFormed};
-ghost use Rattle.apply.specs.Making as spec;
+ghost use Rattle.plan.specs.Widths.{operandFits, transformFits};
+ghost use Rattle.apply.specs.promises.Making as spec;
 use crate::labelling::new_label;
+use memory::LAST_SLOT;
+use memory::LiveTable;
 use plan::Operand;
 use plan::Transform;
 
@@ -18,41 +23,43 @@ use plan::Transform;
 pub fn make_table(
     values: &mut [i64],
     labels: &mut [u32],
-    at: usize,
-    rows: usize,
-    columns: usize,
+    top: LiveTable,
     column: usize,
     transform: Transform,
 )
-    requires { ⌜ spec.Room at rows columns (length (now values)) (length (now labels)) ⌝ }
-    requires { ⌜ (column < columns) × (transformFits transform columns ≡ true) × (operationFits transform ≡ true) × (columnFormed column (gridOf columns rows (drop at (now labels))) ≡ true) ⌝ }
-    ensures { λ r. ⌜ spec.Placed at (columns + 1) rows (spec.rowsMade at rows columns column transform (cellsOf (now (values .entry)) (now (labels .entry)))) (now (values .entry)) (now (labels .entry)) (now (values .exit)) (now (labels .exit)) ⌝ }
+    requires { ⌜ Inside top (length (now values)) (length (now labels)) × (top .columns + 1 ≤ 8) ⌝ }
+    requires { ⌜ (column < top .columns) × (transformFits transform (top .columns) ≡ true) × (operationFits transform ≡ true) × (columnFormed column (labelsIn (now labels) top) ≡ true) ⌝ }
+    ensures { λ r. ⌜ RowsAt (top .at) (top .columns + 1) (top .rows) (spec.rowsMade top column transform (work (now (values .entry)) (now (labels .entry)))) (work (now (values .entry)) (now (labels .entry))) (work (now (values .exit)) (now (labels .exit))) ⌝ }
 {
-    make_rows(values, labels, at, rows, columns, column, transform);
-    memory::move_cells(values, labels, 6144, at, rows * (columns + 1));
+    make_rows(values, labels, top, column, transform);
+    cells::move_cells(
+        values,
+        labels,
+        LAST_SLOT,
+        top.at,
+        top.rows * (top.columns + 1),
+    );
 }
 
 // Makes the rows of all rows of a table.
 fn make_rows(
     values: &mut [i64],
     labels: &mut [u32],
-    at: usize,
-    rows: usize,
-    columns: usize,
+    top: LiveTable,
     column: usize,
     transform: Transform,
 )
-    requires { ⌜ spec.Room at rows columns (length (now values)) (length (now labels)) ⌝ }
-    requires { ⌜ (column < columns) × (transformFits transform columns ≡ true) × (operationFits transform ≡ true) × (columnFormed column (gridOf columns rows (drop at (now labels))) ≡ true) ⌝ }
-    ensures { λ r. ⌜ spec.Put 6144 (flat (spec.rowsMade at rows columns column transform (cellsOf (now (values .entry)) (now (labels .entry))))) (now (values .entry)) (now (labels .entry)) (now (values .exit)) (now (labels .exit)) ⌝ }
+    requires { ⌜ Inside top (length (now values)) (length (now labels)) × (top .columns + 1 ≤ 8) ⌝ }
+    requires { ⌜ (column < top .columns) × (transformFits transform (top .columns) ≡ true) × (operationFits transform ≡ true) × (columnFormed column (labelsIn (now labels) top) ≡ true) ⌝ }
+    ensures { λ r. ⌜ Put lastSlot (flat (spec.rowsMade top column transform (work (now (values .entry)) (now (labels .entry))))) (work (now (values .entry)) (now (labels .entry))) (work (now (values .exit)) (now (labels .exit))) ⌝ }
 {
-    let mut from = at;
-    let mut to = 6144;
+    let mut from = top.at;
+    let mut to = LAST_SLOT;
     let mut row = 0;
-    while row < rows {
-        make_row(values, labels, from, to, columns, column, transform);
-        from += columns;
-        to += columns + 1;
+    while row < top.rows {
+        make_row(values, labels, from, to, top.columns, column, transform);
+        from += top.columns;
+        to += top.columns + 1;
         row += 1;
     }
 }
@@ -67,13 +74,13 @@ fn make_row(
     column: usize,
     transform: Transform,
 )
-    requires { ⌜ (from + columns ≤ to) × (to + columns < 8192) × (8192 ≤ length (now values)) × (8192 ≤ length (now labels)) ⌝ }
+    requires { ⌜ (from + columns ≤ to) × (to + columns < room) × (room ≤ length (now values)) × (room ≤ length (now labels)) ⌝ }
     requires { ⌜ (column < columns) × (transformFits transform columns ≡ true) × (operationFits transform ≡ true) × (wellFormed (getD (now labels) (from + column) 0) ≡ true) ⌝ }
-    ensures { λ r. ⌜ spec.Put to (appliedRow column transform (spec.rowAt (cellsOf (now (values .entry)) (now (labels .entry))) columns from) .cells) (now (values .entry)) (now (labels .entry)) (now (values .exit)) (now (labels .exit)) ⌝ }
+    ensures { λ r. ⌜ Put to (appliedRow column transform (spec.rowAt (work (now (values .entry)) (now (labels .entry))) columns from) .cells) (work (now (values .entry)) (now (labels .entry))) (work (now (values .exit)) (now (labels .exit))) ⌝ }
 {
     let value = new_value(values, from, column, transform);
     let label = new_label(labels[from + column], transform);
-    memory::move_cells(values, labels, from, to, columns);
+    cells::move_cells(values, labels, from, to, columns);
     values[to + columns] = value;
     labels[to + columns] = label;
 }

@@ -1,13 +1,17 @@
 // "APPLY .. Appends a column; the first column stays. The new label is the first operand's, discharged at level T."
 ghost use mathlib.Core.List.{List};
+ghost use Rattle.cells.specs.promises.Work.{work};
+ghost use Rattle.memory.specs.promises.Steps.{DoneWhere};
 ghost use Rattle.plan.specs.Table.{Table};
-ghost use Rattle.apply.specs.Done.{ApplyDone};
-use crate::fitting::apply_fits;
+ghost use Rattle.plan.specs.declared.Step.the-variants.{Apply};
+ghost use Rattle.apply.specs.promises.Fits.{applyFits};
 use crate::making::make_table;
 use crate::refusing::refusal;
-use memory::Answer;
+use kinds::Width;
 use memory::Stack;
+use memory::StepAnswer;
 use memory::Stepped;
+use plan::Step;
 use plan::Transform;
 
 // Appends to the top table a column of what the transform makes of one of its columns. Labels that are not well-formed, or an
@@ -19,30 +23,38 @@ pub fn apply(
     column: usize,
     transform: Transform,
 ) -> Stepped
-    ensures { λ r. ⌜ ((tables : List Table) → ApplyDone column transform tables (now (values .entry)) (now (labels .entry)) stack r (now (values .exit)) (now (labels .exit))) ⌝ }
+    ensures { λ r. ⌜ ((tables : List Table) → DoneWhere (applyFits column transform tables (work (now (values .entry)) (now (labels .entry))) stack) (Apply column transform) tables (work (now (values .entry)) (now (labels .entry))) stack r (work (now (values .exit)) (now (labels .exit)))) ⌝ }
 {
-    if !apply_fits(values.len(), labels, stack, column, transform) {
+    let step = Step::Apply { column, transform };
+    let Width::Columns(columns) = memory::fit(values.len(), labels.len(), stack, step) else {
         return Stepped {
-            answer: Answer::DoesNotFit,
-            stack: stack,
-        };
-    }
-    let slot = stack.depth - 1;
-    let all_rows = stack.rows;
-    let all_columns = stack.columns;
-    let rows = all_rows[slot];
-    let columns = all_columns[slot];
-    let at = 2048 * slot;
-    let answer = refusal(labels, at, rows, columns, column, transform);
-    let Answer::Made = answer else {
-        return Stepped {
-            answer: answer,
+            answer: StepAnswer::DoesNotFit,
             stack: stack,
         };
     };
-    make_table(values, labels, at, rows, columns, column, transform);
-    Stepped {
-        answer: Answer::Made,
-        stack: memory::with_table(stack, slot, columns + 1, rows),
+    let top = memory::live_table(stack, 0);
+    let formed = cells::column_formed(labels, top.at, top.rows, top.columns, column);
+    if !(kinds::operation_fits(transform) & formed) {
+        return Stepped {
+            answer: StepAnswer::DoesNotFit,
+            stack: stack,
+        };
+    }
+    match refusal(labels, top, column, transform) {
+        StepAnswer::Refused(refusal) => Stepped {
+            answer: StepAnswer::Refused(refusal),
+            stack: stack,
+        },
+        StepAnswer::DoesNotFit => Stepped {
+            answer: StepAnswer::DoesNotFit,
+            stack: stack,
+        },
+        StepAnswer::Made => {
+            make_table(values, labels, top, column, transform);
+            Stepped {
+                answer: StepAnswer::Made,
+                stack: memory::with_table(stack, top.slot, columns, top.rows),
+            }
+        }
     }
 }

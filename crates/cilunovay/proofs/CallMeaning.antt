@@ -1,16 +1,16 @@
 -- What the two calls do is what `runCall` and `checkCall` say. Assumes nothing.
 use Prim.Native.Nat.{ℕ, _≤_, _<_}
-use mathlib.Core.Path.{_≡_, refl, ap, _∙_}
+use mathlib.Core.Path.{_≡_, refl, sym, ap, _∙_}
 use mathlib.Core.List.{List, [], _∷_}
 use native.Mathlib.Omega.{arith}
 use lib.ListN.{length, getD, set}
-use borrow.Author.Tests.{le-leb, lt-leb}
 use Rattle.container.specs.Check.{Verdict, accepted, refused, checkInput}
-use Rattle.evaluator.specs.Answers.{Told, released, refusedInput, refusedState}
-use Rattle.evaluator.specs.Lent.{Lent}
-use Rattle.evaluator.specs.Monitor.{Run, ended, written, monitor}
-use Rattle.cilunovay.specs.Calls.{runCalled, runTold, runCall, checkCalled, checkTold, checkCall}
-use Rattle.cilunovay.specs.Numbers.{numbersOf, checkNumbersOf}
+use Rattle.demands.specs.Answers.{Told, released, refusedInput, refusedState}
+use Rattle.demands.specs.Calls.{numbersOf, runCalled, runTold, runCall, checkNumbersOf, checkCalled, checkTold, checkCall}
+use Rattle.demands.specs.Lent.{Lent}
+use Rattle.demands.specs.Monitor.{Run, ended, written, monitor}
+use Rattle.demands.proofs.CallProof.{long-call, call-short-keeps-all}
+use Rattle.demands.proofs.CheckProof.{long-check, check-short-keeps-all}
 
 -- ---- numbers stored one by one at the start of a slice
 
@@ -45,28 +45,24 @@ verdict-stored (refused number place) = two-stored number place
 
 module _ (bytes : List ℕ) (lent : Lent) (answer : List ℕ) where
   pub run-short : length answer < 4 → runCalled 1 lent answer ≡ runCall bytes lent answer
-  unfolding runCall
-  run-short h = rw (lt-leb 4 (length answer) h)
+  run-short h = sym (call-short-keeps-all bytes lent answer h)
 
   pub run-long : {told : Told} {left : Lent} {numbers : List ℕ} → 4 ≤ length answer → ended told left ≡ monitor bytes lent → numbers ≡ numbersOf told
       → runCalled (getD numbers 0 0) left (fourStored numbers answer) ≡ runCall bytes lent answer
-  unfolding runCall
   run-long {told} {left} {numbers} h e n =
       ap (λ (l : List ℕ). runCalled (getD l 0 0) left (fourStored l answer)) n
       ∙ ap (λ (l : List ℕ). runCalled (getD (numbersOf told) 0 0) left l) (told-stored told answer h)
       ∙ ap (λ (run : Run). runTold run answer) e
-      ∙ rw (le-leb 4 (length answer) h)
+      ∙ sym (long-call bytes lent answer h)
 
 module _ (bytes answer : List ℕ) where
   pub check-short : length answer < 2 → checkCalled 1 answer ≡ checkCall bytes answer
-  unfolding checkCall
-  check-short h = rw (lt-leb 2 (length answer) h)
+  check-short h = sym (check-short-keeps-all bytes answer h)
 
   pub check-long : {verdict : Verdict} {numbers : List ℕ} → 2 ≤ length answer → verdict ≡ checkInput bytes → numbers ≡ checkNumbersOf verdict
       → checkCalled (getD numbers 0 0) (twoStored numbers answer) ≡ checkCall bytes answer
-  unfolding checkCall
   check-long {verdict} {numbers} h e n =
       ap (λ (l : List ℕ). checkCalled (getD l 0 0) (twoStored l answer)) n
       ∙ ap (λ (l : List ℕ). checkCalled (getD (checkNumbersOf verdict) 0 0) l) (verdict-stored verdict answer h)
       ∙ ap (λ (v : Verdict). checkTold (checkNumbersOf v) answer) e
-      ∙ rw (le-leb 2 (length answer) h)
+      ∙ sym (long-check bytes answer h)

@@ -4,7 +4,7 @@ ghost use Prim.Native.Nat.{_≤_};
 ghost use lib.ListN.{getD};
 ghost use Rattle.container.specs.Check as input;
 ghost use Rattle.evaluator.specs.Answers.{said};
-ghost use Rattle.cilunovay.specs.Numbers.{numbersOf, checkNumbersOf};
+ghost use Rattle.demands.specs.Calls.{numbersOf, checkNumbersOf};
 use container::Check;
 use evaluator::Answer;
 

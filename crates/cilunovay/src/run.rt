@@ -1,7 +1,7 @@
 // A run of the monitor.
 ghost use mathlib.Core.Path.{_≡_};
-ghost use Rattle.evaluator.specs.Lent.{lent};
-ghost use Rattle.cilunovay.specs.Calls.{runCall, runCalled};
+ghost use Rattle.demands.specs.Lent.{lent};
+ghost use Rattle.demands.specs.Calls.{runCall, runCalled};
 use super::numbers::run_numbers;
 
 // Runs the monitor, writes document 01's number and the three numbers after it to the answer's start, and answers the number: 0 for a

@@ -1,2 +1,3 @@
 -- Comparisons of values.
 pub mod Comparison
+pub mod Sentences

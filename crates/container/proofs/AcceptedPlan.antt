@@ -22,7 +22,7 @@ use Rattle.records.specs.PlanPart.{stepCount, lengthFits, fieldsAt, stepOf, ste
 use Rattle.records.specs.declared.Found.{Found}
 use Rattle.records.specs.declared.Found.the-variants as found
 use Rattle.container.proofs.AcceptedTables.{checks}
-use Rattle.records.proofs.Stacks.{enough-room}
+use Rattle.kinds.proofs.Laws.{enough-room}
 use Rattle.records.proofs.Verdicts.{never, not-so, passed}
 
 -- the stack after a step with enough tables

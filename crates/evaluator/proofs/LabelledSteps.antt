@@ -1,17 +1,15 @@
--- What a step makes: the columns that the plan's check counts, and labels that are well-formed where those it reads are. Assumes nothing.
-use Prim.Native.Nat.{ℕ, zero, suc, _-_}
-use mathlib.Core.Path.{_≡_, sym}
+-- What a step makes has labels that are well-formed where those it reads are. Assumes nothing.
+use Prim.Native.Nat.{ℕ, suc}
+use mathlib.Core.Path.{_≡_}
 use mathlib.Core.Bool.{true}
-use mathlib.Core.List.{List, [], _∷_, map}
-use lib.ListN.{getD, take, drop, List·getD-map}
+use mathlib.Core.List.{List, [], _∷_}
+use lib.ListN.{take, drop}
 use Rattle.container.specs.Accepted.{Sound}
 use Rattle.container.specs.Check.{accepted, checkInput}
 use Rattle.container.specs.Contents.{tablesOf}
 use Rattle.label.specs.WellFormed.{wellFormed}
-use Rattle.memory.specs.Labelled.{Formed, LabelledRow, Labelled}
-use Rattle.plan.specs.Apply.{applied}
+use Rattle.cells.specs.promises.Labelled.{Formed, LabelledRow, Labelled}
 use Rattle.plan.specs.Filter.{passes, filtered}
-use Rattle.plan.specs.Group.{grouped}
 use Rattle.plan.specs.Join.{matches, joinedRow, joinedTo, joinedRows, joined}
 use Rattle.plan.specs.Keep.{keptRow, kept}
 use Rattle.plan.specs.Scan.{scanned}
@@ -19,48 +17,15 @@ use Rattle.plan.specs.Sense.{Each}
 use Rattle.plan.specs.Steps.{make}
 use Rattle.plan.specs.Table.{Cell, Row, Table, noTable, top, second}
 use Rattle.plan.specs.Union.{united}
-use Rattle.plan.specs.Widths.{madeColumns}
 use Rattle.plan.specs.declared.Step.{Step}
 use Rattle.plan.specs.declared.Step.the-variants.{Scan, Union, Join, Filter, Keep, Apply, Group}
 use Rattle.value.specs.Range.{inRange}
 use Rattle.apply.proofs.Laws.{applied-labelled}
 use Rattle.container.proofs.AcceptedTables.{tables-sound}
+use Rattle.demands.proofs.Widths.{each-take, each-drop, each-weaker}
 use Rattle.group.proofs.Laws.{grouped-labelled}
-use Rattle.memory.proofs.LabelledTables.{top-labelled, kept-formed, passing-formed}
+use Rattle.cells.proofs.LabelledTables.{top-labelled, kept-formed, passing-formed}
 use Rattle.plan.proofs.SenseShape.{each-append, each-get, each-cond, each-map}
-
--- ---- columns
-
-pub width-at : (n : ℕ) (stack : List Table) → getD (map (λ table. table .columns) stack) n 0 ≡ getD stack n noTable .columns
-width-at n stack = List·getD-map (λ table. table .columns) stack n noTable
-
-pub made-columns : (step : Step) (tables stack : List Table)
-    → make step tables stack .columns ≡ madeColumns step (map (λ table. table .columns) tables) (map (λ table. table .columns) stack)
-unfolding make madeColumns scanned united joined filtered kept applied grouped
-made-columns (Scan table) tables stack = sym (width-at table tables)
-made-columns Union tables stack = sym (width-at 1 stack)
-made-columns (Join left right) tables stack = rw (width-at 1 stack, width-at 0 stack)
-made-columns (Filter column comparison operand) tables stack = sym (width-at 0 stack)
-made-columns (Keep mask) tables stack = rw (width-at 0 stack)
-made-columns (Apply column transform) tables stack = rw (width-at 0 stack)
-made-columns (Group keys aggregate column) tables stack = rw (width-at 0 stack)
-
--- ---- facts of each element
-
-module _ {A : Type 0} where
-  pub each-take : (P : A → Type 0) (n : ℕ) (xs : List A) → Each P xs → Each P (take n xs)
-  each-take P zero xs e = tt
-  each-take P (suc n) [] e = tt
-  each-take P (suc n) (x ∷ xs) e = (e .0, each-take P n xs (e .1))
-
-  pub each-drop : (P : A → Type 0) (n : ℕ) (xs : List A) → Each P xs → Each P (drop n xs)
-  each-drop P zero xs e = e
-  each-drop P (suc n) [] e = tt
-  each-drop P (suc n) (x ∷ xs) e = each-drop P n xs (e .1)
-
-  pub each-weaker : (P Q : A → Type 0) → ((x : A) → P x → Q x) → (xs : List A) → Each P xs → Each Q xs
-  each-weaker P Q f [] e = tt
-  each-weaker P Q f (x ∷ xs) e = (f x (e .0), each-weaker P Q f xs (e .1))
 
 -- ---- labels
 

@@ -9,57 +9,50 @@ use lib.IntN.{ℤ, pos}
 use lib.ListN.{length, getD, drop, replicate}
 use borrow.Author.Tests.{leb-true, le-leb}
 use Rattle.container.specs.Check as input
-use Rattle.memory.specs.Cells.{cellsOf, Kept}
-use Rattle.memory.specs.Stack.{tableAt}
-use Rattle.memory.specs.Steps as taken
+use Rattle.cells.specs.promises.Search.{says}
+use Rattle.cells.specs.promises.Work.{Work, work, room, Kept}
+use Rattle.memory.specs.declared.Refusal.{Refusal}
+use Rattle.memory.specs.declared.StepAnswer.the-variants.{Made, Refused}
+use Rattle.memory.specs.promises.Stack.{tableIn}
+use Rattle.memory.specs.promises.Steps.{refusalSays, stepSays}
 use Rattle.plan.specs.Evaluate.{Outcome}
-use Rattle.plan.specs.Verdict.{fine, refused}
+use Rattle.plan.specs.Verdict.{refused}
 use Rattle.tally.specs.Lines.{flatLines}
 use Rattle.tally.specs.Zeros.{clears, filled}
-use Rattle.evaluator.specs.Answers.{Told, refusedState, said}
+use Rattle.demands.specs.Answers.{Told, refusedInput, refusedState}
 use Rattle.evaluator.specs.Finish.{finish}
-use Rattle.evaluator.specs.Lent.{longEnough, lent}
-use Rattle.evaluator.specs.Monitor.{evaluation, answerOf, rowsOut, written, ended, monitor}
-use Rattle.evaluator.specs.Walk.{isAccepted, toldInput, isMade, toldStep, Walked}
+use Rattle.demands.specs.Lent.{longEnough, lent}
+use Rattle.demands.specs.Monitor.{evaluation, answerOf, rowsOut, written, ended, monitor}
+use Rattle.evaluator.specs.Walk.{isAccepted, Walked}
 use Rattle.evaluator.specs.declared.Ended.{Ended}
-use Rattle.evaluator.proofs.DemandsProof.{short-run, input-run, begun-run}
+use Rattle.demands.proofs.Runs.{short-keeps-all as short-run, input-run, begun-run}
+use Rattle.memory.proofs.Finish.{verdicts}
 use Rattle.tally.proofs.Laws.{filled-is}
 
 -- ---- the end of the steps, as the run's answer
 
-module _ {bytes : List ℕ} {v₀ : List ℤ} {l₀ t₀ : List ℕ} {stop : Ended} {v : List ℤ} {l t : List ℕ} (w : Walked bytes v₀ l₀ t₀ stop v l t) where
-  pub refused-told : (o : List ℤ) {told : Told} → isMade (taken.said (stop .answer)) ≡ false → told ≡ toldStep (stop .step) (taken.said (stop .answer))
+module _ {bytes : List ℕ} {w₀ : Work} {t₀ : List ℕ} {stop : Ended} {w : Work} {t : List ℕ} (walked : Walked bytes w₀ t₀ stop w t) where
+  pub refused-told : (o : List ℤ) (refusal : Refusal) {told : Told} → stop .answer ≡ Refused refusal
+      → ((number row column : ℕ) → refusalSays refusal ≡ refused number row column → told ≡ refusedState number (stop .step) row column)
       → (told ≡ answerOf (evaluation bytes .outcome)) × (o ≡ written (rowsOut (evaluation bytes .outcome)) o)
-  refused-told o {told} m e = either (taken.said (stop .answer)) refl
-    where
-      either : (s : taken.Said) → taken.said (stop .answer) ≡ s → (told ≡ answerOf (evaluation bytes .outcome)) × (o ≡ written (rowsOut (evaluation bytes .outcome)) o)
-      either (taken.says fine) s = absurd (true≢false (sym (ap isMade s) ∙ m))
-      either (taken.says (refused number row column)) s =
-          let outcome = w .refusal number row column s in
-          (e ∙ ap (toldStep (stop .step)) s ∙ ap answerOf (sym outcome), ap (λ (r : Outcome). written (rowsOut r) o) (sym outcome))
-      either taken.unfit s = absurd (w .answered s)
+  refused-told o refusal a e =
+      let v = verdicts refusal in
+      let outcome = walked .refusal (v .number) (v .row) (v .column) (ap stepSays a ∙ ap says (v .is)) in
+      (e (v .number) (v .row) (v .column) (v .is) ∙ ap answerOf (sym outcome), ap (λ (r : Outcome). written (rowsOut r) o) (sym outcome))
 
-  said-made : isMade (taken.said (stop .answer)) ≡ true → taken.said (stop .answer) ≡ taken.says fine
-  said-made m = either (taken.said (stop .answer)) refl
-    where
-      either : (s : taken.Said) → taken.said (stop .answer) ≡ s → taken.said (stop .answer) ≡ taken.says fine
-      either (taken.says fine) s = s
-      either (taken.says (refused number row column)) s = absurd (true≢false (sym m ∙ ap isMade s))
-      either taken.unfit s = absurd (true≢false (sym m ∙ ap isMade s))
-
-  module _ (m : isMade (taken.said (stop .answer)) ≡ true) where
+  module _ (a : stop .answer ≡ Made) where
     pub few-rows : getD (stop .stack .rows) 0 0 ≤ 256
-    few-rows = w .all-made (said-made m) .0
+    few-rows = walked .all-made (ap stepSays a) .0
 
     pub few-columns : getD (stop .stack .columns) 0 0 ≤ 8
-    few-columns = w .all-made (said-made m) .1
+    few-columns = walked .all-made (ap stepSays a) .1
 
     pub finish-told : (o : List ℤ) {told : Told} {o′ : List ℤ}
-        → told ≡ answerOf (finish (stop .step) (tableAt (cellsOf v l) 0 (getD (stop .stack .columns) 0 0) (getD (stop .stack .rows) 0 0)))
-        → o′ ≡ written (rowsOut (finish (stop .step) (tableAt (cellsOf v l) 0 (getD (stop .stack .columns) 0 0) (getD (stop .stack .rows) 0 0)))) o
+        → told ≡ answerOf (finish (stop .step) (tableIn w 0 (getD (stop .stack .columns) 0 0) (getD (stop .stack .rows) 0 0)))
+        → o′ ≡ written (rowsOut (finish (stop .step) (tableIn w 0 (getD (stop .stack .columns) 0 0) (getD (stop .stack .rows) 0 0)))) o
         → (told ≡ answerOf (evaluation bytes .outcome)) × (o′ ≡ written (rowsOut (evaluation bytes .outcome)) o)
     finish-told o e f =
-        let outcome = w .all-made (said-made m) .2 in
+        let outcome = walked .all-made (ap stepSays a) .2 in
         (e ∙ ap answerOf (sym outcome), f ∙ ap (λ (r : Outcome). written (rowsOut r) o) (sym outcome))
 
 -- ---- the run
@@ -87,19 +80,19 @@ module _ (bytes : List ℕ) (v : List ℤ) (l : List ℕ) (o : List ℤ) (t : Li
   run-short e = sym (short-run bytes (lent v l o t) e)
 
   module _ (long : longEnough (length v) (length l) (length o) (length t) ≡ true) where
-    pub run-input : {check : input.Verdict} {told : Told} → check ≡ input.checkInput bytes → isAccepted check ≡ false → told ≡ toldInput check
+    pub run-input : {check : input.Verdict} {told : Told} → check ≡ input.checkInput bytes → isAccepted check ≡ false → ((number place : ℕ) → check ≡ input.refused number place → told ≡ refusedInput number place)
         → ended told (lent v l o t) ≡ monitor bytes (lent v l o t)
     run-input {check} {told} c a e = either check refl
       where
         either : (k : input.Verdict) → check ≡ k → ended told (lent v l o t) ≡ monitor bytes (lent v l o t)
         either input.accepted k = absurd (true≢false (sym (ap isAccepted k) ∙ a))
         either (input.refused number place) k =
-            ap (λ (answer : Told). ended answer (lent v l o t)) (e ∙ ap toldInput k) ∙ sym (input-run bytes (lent v l o t) number place long (sym c ∙ k))
+            ap (λ (answer : Told). ended answer (lent v l o t)) (e number place k) ∙ sym (input-run bytes (lent v l o t) number place long (sym c ∙ k))
 
     -- the evaluation, and then zeros
     pub run-begun : {told : Told} {o₁ : List ℤ} {t₁ : List ℕ} {v₁ v₂ : List ℤ} {l₁ l₂ : List ℕ} {cleared : Bool} → input.checkInput bytes ≡ input.accepted
         → told ≡ answerOf (evaluation bytes .outcome) → o₁ ≡ written (rowsOut (evaluation bytes .outcome)) o → t₁ ≡ written (flatLines (evaluation bytes .trace)) t
-        → Kept v l v₁ l₁ → cleared ≡ clears v₁ l₁ → v₂ ≡ cond cleared (filled 8192 (pos 0) v₁) v₁ → l₂ ≡ cond cleared (filled 8192 0 l₁) l₁
+        → Kept (work v l) (work v₁ l₁) → cleared ≡ clears v₁ l₁ → v₂ ≡ cond cleared (filled 8192 (pos 0) v₁) v₁ → l₂ ≡ cond cleared (filled 8192 0 l₁) l₁
         → ended told (lent v₂ l₂ o₁ t₁) ≡ monitor bytes (lent v l o t)
     run-begun {v₁ = v₁} {l₁ = l₁} {cleared = cleared} ok et eo et₁ k ec ev el =
         let n = lengths (length v) (length l) (length o) (length t) long in

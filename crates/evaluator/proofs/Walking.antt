@@ -4,7 +4,6 @@ use mathlib.Core.Path.{_≡_, refl, sym, ap, ap₂, subst, _∙_}
 use mathlib.Core.Bool.{Bool, true, false, cond, true≢false}
 use mathlib.Core.List.{List, [], _∷_, _++_, map, append-nil}
 use native.Mathlib.Omega.{arith}
-use lib.IntN.{ℤ}
 use lib.ListN.{length, getD, drop, length-append, length-map}
 use native.Mathlib.Numerals.{add-one}
 use borrow.Author.Tests.{le-leb, leb-true}
@@ -12,11 +11,12 @@ use Rattle.container.specs.Accepted.{Placed, operationExists}
 use Rattle.container.specs.Check.{accepted, checkInput}
 use Rattle.container.specs.Contents.{planOf, tablesOf}
 use Rattle.container.specs.Layout.{partOf}
-use Rattle.memory.specs.Cells.{cellsOf}
-use Rattle.memory.specs.Labelled.{Labelled}
-use Rattle.memory.specs.Stack.{ready, tableAt, tablesTo, stackOf, widthsTo, noTables}
-use Rattle.memory.specs.Steps.{says, said, verdict, widthsOf, Done}
-use Rattle.memory.specs.declared.Answer.the-variants.{Made}
+use Rattle.cells.specs.promises.Labelled.{Labelled}
+use Rattle.cells.specs.promises.Search.{says}
+use Rattle.cells.specs.promises.Work.{Work, room}
+use Rattle.memory.specs.promises.Stack.{ready, tableIn, tablesTo, stackIn, widthsTo, noTables}
+use Rattle.memory.specs.promises.Steps.{stepSays, verdict, widthsOf, Done}
+use Rattle.memory.specs.declared.StepAnswer.the-variants.{Made}
 use Rattle.memory.specs.declared.Stack.{Stack}
 use Rattle.memory.specs.declared.Stepped.{Stepped}
 use Rattle.plan.specs.Evaluate.{Outcome, Result, release, refuse, checkRelease, ending, behind, evaluateFrom, evaluate}
@@ -31,14 +31,14 @@ use Rattle.plan.specs.declared.Step.the-variants.{Union}
 use Rattle.records.specs.PlanPart.{stepCount}
 use Rattle.tally.specs.Lines.{flatLines, withLine}
 use Rattle.evaluator.specs.Finish.{finish}
-use Rattle.evaluator.specs.Monitor.{evaluation, written}
+use Rattle.demands.specs.Monitor.{evaluation, written}
 use Rattle.evaluator.specs.Steady.{Steady}
 use Rattle.evaluator.specs.Walk.{stepNumber, isMade, before, Going, Walked}
 use Rattle.container.proofs.AcceptedOperations.{operations-exist}
 use Rattle.container.proofs.AcceptedPlan.{plan-placed, steps-counted}
-use Rattle.evaluator.proofs.LabelledSteps.{make-labelled, tables-labelled, each-drop}
-use Rattle.evaluator.proofs.LengthsProof.{placed-after}
-use Rattle.memory.proofs.CellLaws.{kept-none, kept-then}
+use Rattle.evaluator.proofs.LabelledSteps.{make-labelled, tables-labelled}
+use Rattle.demands.proofs.Widths.{each-drop, placed-after}
+use Rattle.cells.proofs.CellLaws.{kept-none, kept-then}
 use Rattle.memory.proofs.Finish.{says-is, never-unfit}
 use Rattle.memory.proofs.Stacks.{is-ready, to-ready, widths-are, stack-length}
 use Rattle.plan.proofs.SenseShape.{each-get}
@@ -111,12 +111,12 @@ pub count-is : (bytes : List ℕ) → checkInput bytes ≡ accepted → {part : 
     → (count ≡ length (planOf bytes)) × (count ≤ 64)
 count-is bytes ok p e = let n = e ∙ ap stepCount p in let few = steps-counted bytes ok in (n ∙ sym (few .2), omega (arith, n, few))
 
-module _ {bytes : List ℕ} (ok : checkInput bytes ≡ accepted) {v₀ : List ℤ} {l₀ t₀ : List ℕ} where
-  begun : 8192 ≤ length v₀ → 8192 ≤ length l₀ → Going bytes v₀ l₀ t₀ 0 v₀ l₀ t₀ noTables
+module _ {bytes : List ℕ} (ok : checkInput bytes ≡ accepted) {w₀ : Work} {t₀ : List ℕ} where
+  begun : room ≤ length (w₀ .values) → room ≤ length (w₀ .labels) → Going bytes w₀ t₀ 0 w₀ t₀ noTables
   unfolding noTables evaluation evaluate ready
   begun a b = record {
-    kept = kept-none v₀ l₀;
-    is-ready = is-ready (length v₀) (length l₀) noTables (rw (le-leb 8192 (length v₀) a, le-leb 8192 (length l₀) b));
+    kept = kept-none w₀;
+    is-ready = is-ready (length (w₀ .values)) (length (w₀ .labels)) noTables (rw (le-leb room (length (w₀ .values)) a, le-leb room (length (w₀ .labels)) b));
     labelled = tt;
     lines = [];
     finished = refl;
@@ -125,15 +125,15 @@ module _ {bytes : List ℕ} (ok : checkInput bytes ≡ accepted) {v₀ : List �
     onward = refl;
   }
 
-  pub go-begin : 8192 ≤ length v₀ → 8192 ≤ length l₀ → {stack : Stack} → stack ≡ noTables → Going bytes v₀ l₀ t₀ 0 v₀ l₀ t₀ stack
-  go-begin a b e = subst (Going bytes v₀ l₀ t₀ 0 v₀ l₀ t₀) (sym e) (begun a b)
+  pub go-begin : room ≤ length (w₀ .values) → room ≤ length (w₀ .labels) → {stack : Stack} → stack ≡ noTables → Going bytes w₀ t₀ 0 w₀ t₀ stack
+  go-begin a b e = subst (Going bytes w₀ t₀ 0 w₀ t₀) (sym e) (begun a b)
 
-  module _ {index : ℕ} {v : List ℤ} {l t : List ℕ} {stack : Stack} (g : Going bytes v₀ l₀ t₀ index v l t stack) where
+  module _ {index : ℕ} {w : Work} {t : List ℕ} {stack : Stack} (g : Going bytes w₀ t₀ index w t stack) where
     abbrev tables : List Table
     tables = tablesOf bytes
 
     abbrev live : List Table
-    live = stackOf (cellsOf v l) stack
+    live = stackIn w stack
 
     abbrev next : Step
     next = stepNumber bytes index
@@ -149,15 +149,15 @@ module _ {bytes : List ℕ} (ok : checkInput bytes ≡ accepted) {v₀ : List �
           let fit = leb-true (4 * length (g .lines) + 4) (length t) (line-fits (g .lines) t t₀ (g .traced) (omega (arith, few, g .finished))) in
           omega (arith, fit, g .finished)
 
-      pub go-steady : Steady bytes next v l stack
+      pub go-steady : Steady bytes next w stack
       go-steady =
-          let depth : length (widthsOf live) ≡ stack .depth = length-map live (λ table. table .columns) ∙ stack-length (cellsOf v l) stack (stack .depth) in
+          let depth : length (widthsOf live) ≡ stack .depth = length-map live (λ table. table .columns) ∙ stack-length w stack (stack .depth) in
           let enough : enoughTables next (stack .depth) ≡ true = ap (enoughTables next) (sym depth) ∙ places-next .1 in
           let there : placed next (widthsOf tables) (widthsTo stack (stack .depth)) ≡ true
-          = ap (placed next (widthsOf tables)) (sym (widths-are (cellsOf v l) stack (stack .depth))) ∙ places-next .2 in
+          = ap (placed next (widthsOf tables)) (sym (widths-are w stack (stack .depth))) ∙ places-next .2 in
           record {
             accepted-is = ok;
-            fits-is = rw (to-ready (length v) (length l) stack (g .is-ready), enough, there);
+            fits-is = rw (to-ready (length (w .values)) (length (w .labels)) stack (g .is-ready), enough, there);
             exists = each-get (λ step. operationExists step ≡ true) (planOf bytes) index Union refl (operations-exist bytes ok);
             labelled = g .labelled;
           }
@@ -169,29 +169,29 @@ module _ {bytes : List ℕ} (ok : checkInput bytes ≡ accepted) {v₀ : List �
           g .onward
           ∙ ap (before (g .lines)) (ap (evaluateFrom tables index live) (drop-next (planOf bytes) index Union h) ∙ evaluate-next tables index live next (drop (suc index) (planOf bytes)))
 
-      module _ {done : Stepped} {v′ : List ℤ} {l′ : List ℕ} (d : Done next tables v l stack done v′ l′) where
-        says-so : said (done .answer) ≡ says (verdict next tables live)
-        says-so = d .refusal (go-steady .fits-is)
+      module _ {done : Stepped} {w′ : Work} (d : Done next tables w stack done w′) where
+        says-so : stepSays (done .answer) ≡ says (verdict next tables live)
+        says-so = d .answer (go-steady .fits-is)
 
         -- the trace after the step
         abbrev traceAfter : List ℕ
-        traceAfter = cond (isMade (said (done .answer))) (withLine index (lineOf next (top (stackOf (cellsOf v′ l′) (done .stack)))) t) t
+        traceAfter = cond (isMade (stepSays (done .answer))) (withLine index (lineOf next (top (stackIn w′ (done .stack)))) t) t
 
         -- a step that has made its table, and its line behind those before it
-        going-on : (t′ : List ℕ) → isMade (said (done .answer)) ≡ true → t′ ≡ traceAfter → Going bytes v₀ l₀ t₀ (suc index) v′ l′ t′ (done .stack)
-        going-on t′ m w =
+        going-on : (t′ : List ℕ) → isMade (stepSays (done .answer)) ≡ true → t′ ≡ traceAfter → Going bytes w₀ t₀ (suc index) w′ t′ (done .stack)
+        going-on t′ m a =
             let allowed : verdict next tables live ≡ fine = made-fine (verdict next tables live) (ap isMade (sym says-so) ∙ m) in
-            let after : stackOf (cellsOf v′ l′) (done .stack) ≡ make next tables live ∷ drop (takes next) live = d .result (go-steady .fits-is) allowed in
+            let after : stackIn w′ (done .stack) ≡ make next tables live ∷ drop (takes next) live = d .made (go-steady .fits-is) allowed .tables-are in
             let line = lineOf next (make next tables live) in
             let count : length (g .lines ++ (line ∷ [])) ≡ length (g .lines) + 1 = length-append (g .lines) (line ∷ []) in
             record {
               kept = kept-then (g .kept) (d .kept);
-              is-ready = is-ready (length v′) (length l′) (done .stack) (d .still (go-steady .fits-is) allowed);
+              is-ready = is-ready (length (w′ .values)) (length (w′ .labels)) (done .stack) (d .made (go-steady .fits-is) allowed .still);
               labelled = subst (Each Labelled) (sym after) (make-labelled next tables live (tables-labelled bytes ok) (g .labelled), each-drop Labelled (takes next) live (g .labelled));
               lines = g .lines ++ (line ∷ []);
               finished = omega (arith, count, g .finished);
               traced =
-                  w ∙ ap (λ (b : Bool). cond b (withLine index (lineOf next (top (stackOf (cellsOf v′ l′) (done .stack)))) t) t) m
+                  a ∙ ap (λ (b : Bool). cond b (withLine index (lineOf next (top (stackIn w′ (done .stack)))) t) t) m
                   ∙ ap₂ (λ (n : ℕ) (s : List Table). withLine n (lineOf next (top s)) t) (sym (g .finished)) after ∙ line-behind (g .lines) t t₀ (g .traced) line
                   ∙ ap (λ (n : ℕ). flatLines (g .lines ++ (line ∷ [])) ++ drop (4 * n) t₀) (sym count);
               places =
@@ -202,21 +202,21 @@ module _ {bytes : List ℕ} (ok : checkInput bytes ≡ accepted) {v₀ : List �
                   ∙ ap (λ (s : List Table). before (g .lines ++ (line ∷ [])) (evaluateFrom tables (suc index) s (drop (suc index) (planOf bytes)))) (sym after);
             }
 
-        pub go-on : (t′ : List ℕ) → isMade (said (done .answer)) ≡ true → t′ ≡ traceAfter → Going bytes v₀ l₀ t₀ (index + 1) v′ l′ t′ (done .stack)
-        go-on t′ m w = subst (λ (n : ℕ). Going bytes v₀ l₀ t₀ n v′ l′ t′ (done .stack)) (sym (add-one index)) (going-on t′ m w)
+        pub go-on : (t′ : List ℕ) → isMade (stepSays (done .answer)) ≡ true → t′ ≡ traceAfter → Going bytes w₀ t₀ (index + 1) w′ t′ (done .stack)
+        go-on t′ m a = subst (λ (n : ℕ). Going bytes w₀ t₀ n w′ t′ (done .stack)) (sym (add-one index)) (going-on t′ m a)
 
         -- a refused step: the evaluation is refused at it
-        pub go-refused : (t′ : List ℕ) (left : Stack) → isMade (said (done .answer)) ≡ false → t′ ≡ traceAfter
-            → Walked bytes v₀ l₀ t₀ (record { answer = done .answer; step = index; stack = left }) v′ l′ t′
-        go-refused t′ left m w = either (verdict next tables live) refl
+        pub go-refused : (t′ : List ℕ) (left : Stack) → isMade (stepSays (done .answer)) ≡ false → t′ ≡ traceAfter
+            → Walked bytes w₀ t₀ (record { answer = done .answer; step = index; stack = left }) w′ t′
+        go-refused t′ left m a = either (verdict next tables live) refl
           where
-            either : (r : Verdict) → verdict next tables live ≡ r → Walked bytes v₀ l₀ t₀ (record { answer = done .answer; step = index; stack = left }) v′ l′ t′
+            either : (r : Verdict) → verdict next tables live ≡ r → Walked bytes w₀ t₀ (record { answer = done .answer; step = index; stack = left }) w′ t′
             either fine e = absurd (true≢false (sym (ap isMade (says-so ∙ ap says e)) ∙ m))
             either (refused number row column) e =
                 let comes : evaluation bytes ≡ before (g .lines) (record { outcome = refuse number index row column; trace = [] })
                 = evaluates ∙ ap (λ (r : Verdict). before (g .lines) (ending r index (past tables index live next (drop (suc index) (planOf bytes))))) e in
                 let traces : evaluation bytes .trace ≡ g .lines = ap (λ (r : Result). r .trace) comes ∙ before-trace (g .lines) _ ∙ append-nil (g .lines) in
-                let same : t′ ≡ t = w ∙ ap (λ (b : Bool). cond b (withLine index (lineOf next (top (stackOf (cellsOf v′ l′) (done .stack)))) t) t) m in
+                let same : t′ ≡ t = a ∙ ap (λ (b : Bool). cond b (withLine index (lineOf next (top (stackIn w′ (done .stack)))) t) t) m in
                 record {
                   kept = kept-then (g .kept) (d .kept);
                   traced = same ∙ lines-written (g .lines) t₀ t (g .traced) ∙ ap (λ (lines : List Line). written (flatLines lines) t₀) (sym traces);
@@ -228,12 +228,12 @@ module _ {bytes : List ℕ} (ok : checkInput bytes ≡ accepted) {v₀ : List �
                 }
 
     -- all steps are finished, and one table is left
-    ended : index ≡ length (planOf bytes) → Walked bytes v₀ l₀ t₀ (record { answer = Made; step = index; stack = stack }) v l t
+    ended : index ≡ length (planOf bytes) → Walked bytes w₀ t₀ (record { answer = Made; step = index; stack = stack }) w t
     ended e =
         let none : drop index (planOf bytes) ≡ [] = ap (λ (n : ℕ). drop n (planOf bytes)) e ∙ drop-none (planOf bytes) in
         let one : length (widthsOf live) ≡ 1 = subst (Placed (widthsOf tables) (widthsOf live)) none (g .places) in
-        let depth : stack .depth ≡ 1 = sym (length-map live (λ table. table .columns) ∙ stack-length (cellsOf v l) stack (stack .depth)) ∙ one in
-        let alone : live ≡ tableAt (cellsOf v l) 0 (getD (stack .columns) 0 0) (getD (stack .rows) 0 0) ∷ [] = ap (tablesTo (cellsOf v l) stack) depth in
+        let depth : stack .depth ≡ 1 = sym (length-map live (λ table. table .columns) ∙ stack-length w stack (stack .depth)) ∙ one in
+        let alone : live ≡ tableIn w 0 (getD (stack .columns) 0 0) (getD (stack .rows) 0 0) ∷ [] = ap (tablesTo w stack) depth in
         let comes : evaluation bytes ≡ before (g .lines) (ending (checkRelease (top live)) index (record { outcome = release (top live); trace = [] }))
         = g .onward ∙ ap (before (g .lines)) (ap (evaluateFrom tables index live) none ∙ evaluate-end tables index live) in
         let traces : evaluation bytes .trace ≡ g .lines
@@ -250,5 +250,5 @@ module _ {bytes : List ℕ} (ok : checkInput bytes ≡ accepted) {v₀ : List �
           );
         }
 
-    pub go-end : (count : ℕ) → count ≡ length (planOf bytes) → index ≡ count → Walked bytes v₀ l₀ t₀ (record { answer = Made; step = count; stack = stack }) v l t
-    go-end count f e = subst (λ (n : ℕ). Walked bytes v₀ l₀ t₀ (record { answer = Made; step = n; stack = stack }) v l t) e (ended (e ∙ f))
+    pub go-end : (count : ℕ) → count ≡ length (planOf bytes) → index ≡ count → Walked bytes w₀ t₀ (record { answer = Made; step = count; stack = stack }) w t
+    go-end count f e = subst (λ (n : ℕ). Walked bytes w₀ t₀ (record { answer = Made; step = n; stack = stack }) w t) e (ended (e ∙ f))

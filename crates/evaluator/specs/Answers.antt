@@ -1,12 +1,7 @@
 -- Document 01's number and place of each refusal, and the rows and columns of a release.
-use Prim.Native.Nat.{ℕ}
+use Rattle.demands.specs.Answers.{Told, released, refusedInput, refusedState}
 use Rattle.evaluator.specs.declared.Answer.{Answer}
 use Rattle.evaluator.specs.declared.Answer.the-variants as answer
-
-pub data Told : Type 0 where
-  released : ℕ → ℕ → Told  -- rows and columns
-  refusedInput : ℕ → ℕ → Told  -- a number; a byte offset
-  refusedState : ℕ → ℕ → ℕ → ℕ → Told  -- a number; a step, a row and a column
 
 -- what each answer of a run says
 abbrev pub said : Answer → Told

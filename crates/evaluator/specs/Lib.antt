@@ -1,8 +1,5 @@
--- The monitor, and its three demands. These files are what a reader must believe.
-pub mod Lent
+-- The numbers of a run's answers, and the steps of a plan over work memory. What the monitor is, and its demands, stand in crate `demands`.
 pub mod Answers
 pub mod Finish
 pub mod Steady
 pub mod Walk
-pub mod Monitor
-pub mod Demands

@@ -5,6 +5,7 @@ mod release;
 mod steps;
 
 use memory::Stack;
+use memory::StepAnswer;
 pub use monitor::run;
 
 // What a run answers: a release with its rows and columns, or a refusal with its place. 1 is `TooShort`, 11 to 19 are `Container` to
@@ -32,7 +33,15 @@ pub enum Answer {
 // How the steps of a plan ended: with the last one, or with the refusal of one. `step` is how many were finished, and `stack` what they
 // left.
 struct Ended {
-    answer: memory::Answer,
+    answer: StepAnswer,
     step: usize,
     stack: Stack,
+}
+
+// Stands where a case is left that does not occur: no call of it can be proved, but where what is known there is a contradiction.
+fn never() -> Answer
+    requires { ⌜ ⊥ ⌝ }
+    ensures { λ r. ⌜ ⊥ ⌝ }
+{
+    Answer::TooShort
 }

@@ -1,19 +1,25 @@
 // A run of the monitor.
-ghost use Prim.Native.Nat.{_≤_};
 ghost use mathlib.Core.Path.{_≡_};
+ghost use mathlib.Core.Bool.{false};
 ghost use lib.ListN.{length};
 ghost use Rattle.container.specs.Check as input;
-ghost use Rattle.memory.specs.Cells.{Kept};
-ghost use Rattle.memory.specs.Steps as taken;
+ghost use Prim.Native.Nat.{ℕ, _≤_};
+ghost use Rattle.cells.specs.promises.Work.{work, room, Kept};
+ghost use Rattle.memory.specs.promises.Steps.{refusalSays};
+ghost use Rattle.plan.specs.Verdict.{refused};
+ghost use Rattle.demands.specs.Answers.{refusedInput, refusedState};
 ghost use Rattle.tally.specs.Lines.{flatLines};
 ghost use Rattle.evaluator.specs.Answers.{said};
-ghost use Rattle.evaluator.specs.Lent.{lent, longEnough};
-ghost use Rattle.evaluator.specs.Monitor.{evaluation, answerOf, rowsOut, written, ended, monitor};
-ghost use Rattle.evaluator.specs.Walk.{isAccepted, toldInput, toldStep};
+ghost use Rattle.demands.specs.Lent.{lent, longEnough};
+ghost use Rattle.demands.specs.Monitor.{evaluation, answerOf, rowsOut, written, ended, monitor};
+ghost use Rattle.evaluator.specs.Walk.{isAccepted};
 use super::Answer;
+use super::never;
 use super::release;
 use super::steps;
 use container::Check;
+use memory::Refusal;
+use memory::StepAnswer;
 
 // Evaluates a container's plan over the lent work slices. A release writes its rows to the output's start; a release and a refusal of the
 // evaluation write the lines of the finished steps to the trace's start, and leave the first 8,192 elements of both work slices zero. Where
@@ -66,10 +72,11 @@ fn is_accepted(check: Check) -> bool
 
 // The refusal of the input checks as the run's answer.
 fn input_refusal(check: Check) -> Answer
-    ensures { λ r. ⌜ said r ≡ toldInput (input.said check) ⌝ }
+    requires { ⌜ isAccepted (input.said check) ≡ false ⌝ }
+    ensures { λ r. ⌜ ((number place : ℕ) → input.said check ≡ input.refused number place → said r ≡ refusedInput number place) ⌝ }
 {
     match check {
-        Check::Accepted => Answer::TooShort,
+        Check::Accepted => never(),
         Check::Container => Answer::Container,
         Check::Directory(place) => Answer::Directory(place),
         Check::Table(place) => Answer::Table(place),
@@ -90,33 +97,39 @@ fn evaluate(
     output: &mut [i64],
     trace: &mut [u32],
 ) -> Answer
-    requires { ⌜ (input.checkInput (now container) ≡ input.accepted) × (8192 ≤ length (now values)) × (8192 ≤ length (now labels)) × (2048 ≤ length (now output)) × (256 ≤ length (now trace)) ⌝ }
+    requires { ⌜ (input.checkInput (now container) ≡ input.accepted) × (room ≤ length (now values)) × (room ≤ length (now labels)) × (2048 ≤ length (now output)) × (256 ≤ length (now trace)) ⌝ }
     ensures { λ r. ⌜ said r ≡ answerOf (evaluation (now (container .entry)) .outcome) ⌝ }
     ensures { λ _. ⌜ now (output .exit) ≡ written (rowsOut (evaluation (now (container .entry)) .outcome)) (now (output .entry)) ⌝ }
     ensures { λ _. ⌜ now (trace .exit) ≡ written (flatLines (evaluation (now (container .entry)) .trace)) (now (trace .entry)) ⌝ }
-    ensures { λ _. ⌜ Kept (now (values .entry)) (now (labels .entry)) (now (values .exit)) (now (labels .exit)) ⌝ }
+    ensures { λ _. ⌜ Kept (work (now (values .entry)) (now (labels .entry))) (work (now (values .exit)) (now (labels .exit))) ⌝ }
 {
     let ended = steps::run_steps(container, values, labels, trace);
     let answer = ended.answer;
-    if !steps::is_made(answer) {
-        return step_refusal(answer, ended.step);
-    }
     let stack = ended.stack;
     let rows = stack.rows;
     let columns = stack.columns;
-    release::release(values, labels, output, rows[0], columns[0], ended.step)
+    match answer {
+        StepAnswer::Refused(refusal) => step_refusal(refusal, ended.step),
+        StepAnswer::DoesNotFit => never(),
+        StepAnswer::Made => release::release(
+            values,
+            labels,
+            output,
+            rows[0],
+            columns[0],
+            ended.step,
+        ),
+    }
 }
 
 // The refusal of a step as the run's answer.
-fn step_refusal(answer: memory::Answer, step: usize) -> Answer
-    ensures { λ r. ⌜ said r ≡ toldStep step (taken.said answer) ⌝ }
+fn step_refusal(refusal: Refusal, step: usize) -> Answer
+    ensures { λ r. ⌜ ((number row column : ℕ) → refusalSays refusal ≡ refused number row column → said r ≡ refusedState number step row column) ⌝ }
 {
-    match answer {
-        memory::Answer::Made => Answer::TooShort,
-        memory::Answer::NotClear(row, column) => Answer::NotClear(step, row, column),
-        memory::Answer::Forbidden(row, column) => Answer::Forbidden(step, row, column),
-        memory::Answer::OperandNotClear(row, column) => Answer::OperandNotClear(step, row, column),
-        memory::Answer::TooMany => Answer::TooMany(step),
-        memory::Answer::DoesNotFit => Answer::TooShort,
+    match refusal {
+        Refusal::NotClear(row, column) => Answer::NotClear(step, row, column),
+        Refusal::Forbidden(row, column) => Answer::Forbidden(step, row, column),
+        Refusal::OperandNotClear(row, column) => Answer::OperandNotClear(step, row, column),
+        Refusal::TooMany => Answer::TooMany(step),
     }
 }

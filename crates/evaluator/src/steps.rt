@@ -5,9 +5,9 @@ ghost use Prim.Native.Nat.{_+_, _*_, _≤_, _<_};
 ghost use lib.ListN.{length};
 ghost use Rattle.container.specs.Check.{accepted, checkInput};
 ghost use Rattle.container.specs.Contents.{planOf, tablesOf};
-ghost use Rattle.memory.specs.Cells.{cellsOf};
-ghost use Rattle.memory.specs.Stack.{stackOf};
-ghost use Rattle.memory.specs.Steps.{said, Done};
+ghost use Rattle.cells.specs.promises.Work.{work, room};
+ghost use Rattle.memory.specs.promises.Stack.{stackIn};
+ghost use Rattle.memory.specs.promises.Steps.{stepSays, Done};
 ghost use Rattle.plan.specs.Table.{top};
 ghost use Rattle.plan.specs.Trace.{lineOf};
 ghost use Rattle.tally.specs.Lines.{withLine};
@@ -15,8 +15,8 @@ ghost use Rattle.evaluator.specs.Steady.{Steady};
 ghost use Rattle.evaluator.specs.Walk.{stepNumber, isMade, Walked};
 use super::Ended;
 use super::line;
-use memory::Answer;
 use memory::Stack;
+use memory::StepAnswer;
 use memory::Stepped;
 use plan::Step;
 use records::Found;
@@ -28,8 +28,8 @@ pub fn run_steps(
     labels: &mut [u32],
     trace: &mut [u32],
 ) -> Ended
-    requires { ⌜ (checkInput (now container) ≡ accepted) × (8192 ≤ length (now values)) × (8192 ≤ length (now labels)) × (256 ≤ length (now trace)) ⌝ }
-    ensures { λ r. ⌜ Walked (now (container .entry)) (now (values .entry)) (now (labels .entry)) (now (trace .entry)) r (now (values .exit)) (now (labels .exit)) (now (trace .exit)) ⌝ }
+    requires { ⌜ (checkInput (now container) ≡ accepted) × (room ≤ length (now values)) × (room ≤ length (now labels)) × (256 ≤ length (now trace)) ⌝ }
+    ensures { λ r. ⌜ Walked (now (container .entry)) (work (now (values .entry)) (now (labels .entry))) (now (trace .entry)) r (work (now (values .exit)) (now (labels .exit))) (now (trace .exit)) ⌝ }
 {
     let count = records::step_count(container::part(container, 0));
     let mut stack = memory::no_tables();
@@ -48,7 +48,7 @@ pub fn run_steps(
         index += 1;
     }
     Ended {
-        answer: Answer::Made,
+        answer: StepAnswer::Made,
         step: count,
         stack: stack,
     }
@@ -63,9 +63,9 @@ fn finish_step(
     stack: Stack,
     index: usize,
 ) -> Stepped
-    requires { ⌜ (index < length (planOf (now container))) × (4 * index + 4 ≤ length (now trace)) × Steady (now container) (stepNumber (now container) index) (now values) (now labels) stack ⌝ }
-    ensures { λ r. ⌜ Done (stepNumber (now (container .entry)) index) (tablesOf (now (container .entry))) (now (values .entry)) (now (labels .entry)) stack r (now (values .exit)) (now (labels .exit)) ⌝ }
-    ensures { λ r. ⌜ now (trace .exit) ≡ cond (isMade (said (r .answer))) (withLine index (lineOf (stepNumber (now (container .entry)) index) (top (stackOf (cellsOf (now (values .exit)) (now (labels .exit))) (r .stack)))) (now (trace .entry))) (now (trace .entry)) ⌝ }
+    requires { ⌜ (index < length (planOf (now container))) × (4 * index + 4 ≤ length (now trace)) × Steady (now container) (stepNumber (now container) index) (work (now values) (now labels)) stack ⌝ }
+    ensures { λ r. ⌜ Done (stepNumber (now (container .entry)) index) (tablesOf (now (container .entry))) (work (now (values .entry)) (now (labels .entry))) stack r (work (now (values .exit)) (now (labels .exit))) ⌝ }
+    ensures { λ r. ⌜ now (trace .exit) ≡ cond (isMade (stepSays (r .answer))) (withLine index (lineOf (stepNumber (now (container .entry)) index) (top (stackIn (work (now (values .exit)) (now (labels .exit))) (r .stack)))) (now (trace .entry))) (now (trace .entry)) ⌝ }
 {
     let next = step_number(container, index);
     let stepped = step::take_step(container, values, labels, stack, next);
@@ -88,15 +88,12 @@ fn step_number(container: &[u8], index: usize) -> Step
 }
 
 // Whether a step has made its table.
-pub fn is_made(answer: Answer) -> bool
-    ensures { λ r. ⌜ r ≡ isMade (said answer) ⌝ }
+pub fn is_made(answer: StepAnswer) -> bool
+    ensures { λ r. ⌜ r ≡ isMade (stepSays answer) ⌝ }
 {
     match answer {
-        Answer::Made => true,
-        Answer::NotClear(_, _) => false,
-        Answer::Forbidden(_, _) => false,
-        Answer::OperandNotClear(_, _) => false,
-        Answer::TooMany => false,
-        Answer::DoesNotFit => false,
+        StepAnswer::Made => true,
+        StepAnswer::Refused(_) => false,
+        StepAnswer::DoesNotFit => false,
     }
 }

@@ -6,10 +6,14 @@ use mathlib.Core.List.{List, [], _∷_, _++_, append-nil}
 use native.Mathlib.Nat.{zero-mul, mul-le-mul-right}
 use native.Mathlib.Numerals.{add-one}
 use native.Mathlib.Omega.{arith}
-use lib.IntN.{ℤ, pos}
+use lib.IntN.{pos}
 use lib.ListN.{length, getD, take, drop, length-append, length-drop}
 use borrow.Author.Tests.{ltb-true}
-use Rattle.memory.specs.Cells.{cellsOf, flat, moved, movesWithin, Kept}
+use Rattle.cells.specs.promises.Cells.{flat, movesWithin}
+use Rattle.cells.specs.promises.Work.{Work, cellsIn, room, Kept}
+use Rattle.cells.specs.promises.Written.{CellsWritten}
+use Rattle.memory.specs.declared.LiveTable.{LiveTable}
+use Rattle.memory.specs.promises.Stack.{Inside}
 use Rattle.plan.specs.Filter.{holds, passes, passing}
 use Rattle.plan.specs.Operands.{operandValue}
 use Rattle.plan.specs.Table.{Cell, Row, blank, cellAt, rowsOf}
@@ -17,137 +21,141 @@ use Rattle.plan.specs.Widths.{operandFits}
 use Rattle.plan.specs.declared.Comparison.{Comparison}
 use Rattle.plan.specs.declared.Operand.{Operand}
 use Rattle.plan.specs.declared.Operand.the-variants.{Constant, Column}
-use Rattle.filter.specs.Filtering.{operandAt}
-use Rattle.memory.proofs.CellLaws.{cells-length, both-move, cells-moved, kept-none, kept-moved}
-use Rattle.memory.proofs.RowReads.{rowOf, row-cells, cell-of, value-of, flat-append, flat-length}
-use Rattle.memory.proofs.Rows.{rows-wide, rows-more}
-use Rattle.memory.proofs.TopTable.{Inside}
-use Rattle.memory.proofs.Written.{Moves, down, Written, nothing-written, read-past, then-copied}
+use Rattle.filter.specs.promises.Filtering.{operandAt}
+use Rattle.cells.proofs.CellLaws.{movedIn, cells-moved, kept-none, kept-moved}
+use Rattle.cells.proofs.RowReads.{rowOf, row-cells, cell-of, value-of, flat-append, flat-length}
+use Rattle.cells.proofs.Rows.{rows-wide, rows-more}
+use Rattle.memory.proofs.LiveTables.{cells-room}
+use Rattle.cells.proofs.Written.{Moves, down, nothing-written, read-past, then-copied}
 use Rattle.filter.proofs.RowLaws.{passing-append, passing-wide}
 
-module _ (pass : Row → Bool) (at rows columns : ℕ) (v₀ : List ℤ) (l₀ : List ℕ) where
-  -- the rows kept of the first ones
-  abbrev pub keptOf : ℕ → List Row
-  keptOf row = passing pass (rowsOf columns row (drop at (cellsOf v₀ l₀)))
+-- the rows kept of a table's first ones
+abbrev pub keptOf : (Row → Bool) → LiveTable → Work → ℕ → List Row
+keptOf pass top w row = passing pass (rowsOf (top .columns) row (drop (top .at) (cellsIn w)))
 
-  pub record Filtering (v : List ℤ) (l : List ℕ) (kept from to row : ℕ) : Type 0 where
-    pub row-le : row ≤ rows
-    pub from-is : from ≡ at + row * columns
-    pub kept-is : kept ≡ length (keptOf row)
-    pub kept-le : kept ≤ row
-    pub to-is : to ≡ at + kept * columns
-    pub written : Written (cellsOf v₀ l₀) at (flat (keptOf row)) (cellsOf v l)
-    pub same : Kept v₀ l₀ v l
+pub record Filtering (pass : Row → Bool) (top : LiveTable) (w₀ w : Work) (kept from to row : ℕ) : Type 0 where
+  pub row-le : row ≤ top .rows
+  pub from-is : from ≡ top .at + row * top .columns
+  pub kept-is : kept ≡ length (keptOf pass top w₀ row)
+  pub kept-le : kept ≤ row
+  pub to-is : to ≡ top .at + kept * top .columns
+  pub written : CellsWritten w₀ (top .at) (flat (keptOf pass top w₀ row)) w
+  pub same : Kept w₀ w
 
-  module _ (i : Inside at rows columns (length v₀) (length l₀)) where
-    memory-length : at + rows * columns ≤ length (cellsOf v₀ l₀)
-    memory-length = cells-length v₀ l₀ (at + rows * columns) (i .in-values) (i .in-labels)
+-- a row of a table
+abbrev hereOf : LiveTable → Work → ℕ → Row
+hereOf top w row = rowOf (cellsIn w) (top .at) (top .columns) row
 
-    pub filter-begins : Filtering v₀ l₀ 0 at at 0
-    filter-begins = record {
-      row-le = omega arith;
-      from-is = omega (arith, zero-mul columns);
-      kept-is = refl;
-      kept-le = omega arith;
-      to-is = omega (arith, zero-mul columns);
-      written = nothing-written (cellsOf v₀ l₀) at (omega (arith, memory-length));
-      same = kept-none v₀ l₀;
-    }
+memory-length : {top : LiveTable} (w₀ : Work) → Inside top (length (w₀ .values)) (length (w₀ .labels)) → top .at + top .rows * top .columns ≤ length (cellsIn w₀)
+memory-length w₀ i = omega (arith, i .below, cells-room w₀ i)
 
-    module _ {v : List ℤ} {l : List ℕ} {kept from to row : ℕ} (s : Filtering v l kept from to row) (h : row < rows) where
-      inside : at + row * columns + columns ≤ at + rows * columns
-      inside = omega (arith, mul-le-mul-right columns h)
+module _ {pass : Row → Bool} {top : LiveTable} {w₀ : Work} (i : Inside top (length (w₀ .values)) (length (w₀ .labels))) where
+  pub filter-begins : Filtering pass top w₀ w₀ 0 (top .at) (top .at) 0
+  filter-begins = record {
+    row-le = omega arith;
+    from-is = omega (arith, zero-mul (top .columns));
+    kept-is = refl;
+    kept-le = omega arith;
+    to-is = omega (arith, zero-mul (top .columns));
+    written = nothing-written (cellsIn w₀) (top .at) (omega (arith, memory-length w₀ i));
+    same = kept-none w₀;
+  }
 
-      wide : length (flat (keptOf row)) ≡ kept * columns
-      wide =
-          flat-length columns (keptOf row) (passing-wide columns pass (rowsOf columns row (drop at (cellsOf v₀ l₀))) (rows-wide columns row (drop at (cellsOf v₀ l₀)) (simp length-drop (omega (arith, memory-length, inside)))))
-          ∙ ap (λ (n : ℕ). n * columns) (sym (s .kept-is))
+  module _ {w : Work} {kept from to row : ℕ} (s : Filtering pass top w₀ w kept from to row) (h : row < top .rows) where
+    inside : (top .at) + row * (top .columns) + (top .columns) ≤ (top .at) + top .rows * (top .columns)
+    inside = omega (arith, mul-le-mul-right (top .columns) h)
 
-      behind : kept * columns ≤ row * columns
-      behind = mul-le-mul-right columns (s .kept-le)
+    wide : length (flat (keptOf pass top w₀ row)) ≡ kept * (top .columns)
+    wide =
+        flat-length (top .columns) (keptOf pass top w₀ row) (passing-wide (top .columns) pass (rowsOf (top .columns) row (drop (top .at) (cellsIn w₀))) (rows-wide (top .columns) row (drop (top .at) (cellsIn w₀)) (simp length-drop (omega (arith, memory-length w₀ i, inside)))))
+        ∙ ap (λ (n : ℕ). n * (top .columns)) (sym (s .kept-is))
 
-      -- what the row holds
-      pub value-is : (column : ℕ) → column < columns → cellAt column (rowOf (cellsOf v₀ l₀) at columns row) .value ≡ getD v (from + column) (pos 0)
-      value-is column k =
-          let m = cellsOf v₀ l₀ in
-          let e : from + column ≡ at + row * columns + column = omega (arith, s .from-is) in
-          ap (λ (cell : Cell). cell .value) (cell-of m at columns row column k)
-          ∙ value-of m v l (at + row * columns + column) (omega (arith, inside, i .in-values, s .same .as-many-values)) (omega (arith, inside, i .in-labels, s .same .as-many-labels))
-          (read-past (s .written) (at + row * columns + column) blank (omega (arith, wide, behind)))
-          ∙ ap (λ (n : ℕ). getD v n (pos 0)) (sym e)
+    behind : kept * (top .columns) ≤ row * (top .columns)
+    behind = mul-le-mul-right (top .columns) (s .kept-le)
 
-      more : keptOf (row + 1) ≡ keptOf row ++ cond (pass (rowOf (cellsOf v₀ l₀) at columns row)) (rowOf (cellsOf v₀ l₀) at columns row ∷ []) []
-      more =
-          ap keptOf (add-one row) ∙ ap (passing pass) (rows-more columns row (drop at (cellsOf v₀ l₀)))
-          ∙ passing-append pass (rowsOf columns row (drop at (cellsOf v₀ l₀))) (rowOf (cellsOf v₀ l₀) at columns row ∷ [])
+    pub values-reach : from + (top .columns) ≤ length (w .values)
+    values-reach = omega (arith, s .from-is, inside, i, s .same .as-many-values)
 
-      next : from + columns ≡ at + (row + 1) * columns
-      next = omega (arith, s .from-is)
+    labels-reach : from + (top .columns) ≤ length (w .labels)
+    labels-reach = omega (arith, s .from-is, inside, i, s .same .as-many-labels)
 
-      pub row-skipped : pass (rowOf (cellsOf v₀ l₀) at columns row) ≡ false → Filtering v l kept (from + columns) to (row + 1)
-      row-skipped e =
-          let none : keptOf (row + 1) ≡ keptOf row = more ∙ rw e (append-nil (keptOf row)) in
-          record {
-            row-le = omega arith;
-            from-is = next;
-            kept-is = s .kept-is ∙ ap length (sym none);
-            kept-le = omega (arith, s .kept-le);
-            to-is = s .to-is;
-            written = rw none (s .written);
-            same = s .same;
-          }
+    -- what the row holds
+    value-is : (column : ℕ) → column < (top .columns) → cellAt column (hereOf top w₀ row) .value ≡ getD (w .values) (from + column) (pos 0)
+    value-is column k =
+        let e : from + column ≡ (top .at) + row * (top .columns) + column = omega (arith, s .from-is) in
+        ap (λ (cell : Cell). cell .value) (cell-of (cellsIn w₀) (top .at) (top .columns) row column k)
+        ∙ value-of (cellsIn w₀) w ((top .at) + row * (top .columns) + column) (omega (arith, s .from-is, values-reach)) (omega (arith, s .from-is, labels-reach))
+        (read-past (s .written) ((top .at) + row * (top .columns) + column) blank (omega (arith, wide, behind)))
+        ∙ ap (λ (n : ℕ). getD (w .values) n (pos 0)) (sym e)
 
-      not-after : to ≤ from
-      not-after = omega (arith, s .to-is, s .from-is, behind)
+    more : keptOf pass top w₀ (row + 1) ≡ (keptOf pass top w₀ row) ++ cond (pass (hereOf top w₀ row)) ((hereOf top w₀ row) ∷ []) []
+    more =
+        ap (keptOf pass top w₀) (add-one row) ∙ ap (passing pass) (rows-more (top .columns) row (drop (top .at) (cellsIn w₀))) ∙ passing-append pass (rowsOf (top .columns) row (drop (top .at) (cellsIn w₀))) ((hereOf top w₀ row) ∷ [])
 
-      pub values-reach : from + columns ≤ length v
-      values-reach = omega (arith, s .from-is, inside, i .in-values, s .same .as-many-values)
+    next : from + (top .columns) ≡ (top .at) + (row + 1) * (top .columns)
+    next = omega (arith, s .from-is)
 
-      labels-reach : from + columns ≤ length l
-      labels-reach = omega (arith, s .from-is, inside, i .in-labels, s .same .as-many-labels)
+    row-skipped : pass (hereOf top w₀ row) ≡ false → Filtering pass top w₀ w kept (from + (top .columns)) to (row + 1)
+    row-skipped e =
+        let none : keptOf pass top w₀ (row + 1) ≡ (keptOf pass top w₀ row) = more ∙ rw e (append-nil (keptOf pass top w₀ row)) in
+        record {
+          row-le = omega arith;
+          from-is = next;
+          kept-is = s .kept-is ∙ ap length (sym none);
+          kept-le = omega (arith, s .kept-le);
+          to-is = s .to-is;
+          written = rw none (s .written);
+          same = s .same;
+        }
 
-      pub places : (to + columns ≤ 8192) × (from + columns ≤ 8192) × (kept ≤ 256) × (row ≤ 256)
-      places = (omega (arith, s .from-is, not-after, inside, i .in-memory), omega (arith, s .from-is, inside, i .in-memory), omega (arith, s .kept-le, i .few-rows), omega (arith, i .few-rows))
+    not-after : to ≤ from
+    not-after = omega (arith, s .to-is, s .from-is, behind)
 
-      in-values : Moves from to columns (length v)
-      in-values = down not-after values-reach
+    pub places : (to + (top .columns) ≤ room) × (from + (top .columns) ≤ room) × (kept ≤ 256) × (row ≤ 256)
+    places = (
+      omega (arith, s .from-is, not-after, inside, i .below),
+      omega (arith, s .from-is, inside, i .below),
+      omega (arith, s .kept-le, i .few-rows),
+      omega (arith, i .few-rows),
+    )
 
-      in-labels : Moves from to columns (length l)
-      in-labels = down not-after labels-reach
+    pub in-values : Moves from to (top .columns) (length (w .values))
+    in-values = down not-after values-reach
 
-      pub row-moves : movesWithin v l from to columns ≡ true
-      row-moves = both-move v l in-values in-labels
+    pub in-labels : Moves from to (top .columns) (length (w .labels))
+    in-labels = down not-after labels-reach
 
-      pub row-kept : pass (rowOf (cellsOf v₀ l₀) at columns row) ≡ true → Filtering (moved from to columns v) (moved from to columns l) (kept + 1) (from + columns) (to + columns) (row + 1)
-      row-kept e =
-          let m = cellsOf v₀ l₀ in
-          let one : keptOf (row + 1) ≡ keptOf row ++ (rowOf m at columns row ∷ []) = more ∙ rw e in
-          let cells : rowOf m at columns row .cells ++ [] ≡ take columns (drop from m)
-          = append-nil (rowOf m at columns row .cells) ∙ row-cells m at columns row ∙ ap (λ (n : ℕ). take columns (drop n m)) (sym (s .from-is)) in
-          let longer : flat (keptOf (row + 1)) ≡ flat (keptOf row) ++ take columns (drop from m)
-          = ap flat one ∙ flat-append (keptOf row) (rowOf m at columns row ∷ []) ∙ ap (λ (t : List Cell). flat (keptOf row) ++ t) cells in
-          record {
-            row-le = omega arith;
-            from-is = next;
-            kept-is = ap (λ (n : ℕ). n + 1) (s .kept-is) ∙ sym (ap length one ∙ length-append (keptOf row) (rowOf m at columns row ∷ []));
-            kept-le = omega (arith, s .kept-le);
-            to-is = omega (arith, s .to-is);
-            written = rw (longer, cells-moved v l in-values in-labels)
-                (then-copied (s .written) from to columns (omega (arith, s .to-is, wide)) not-after (omega (arith, s .from-is, inside, memory-length)));
-            same = kept-moved in-values in-labels (omega (arith, s .from-is, not-after, inside, i .in-memory)) (s .same);
-          }
+    row-kept : pass (hereOf top w₀ row) ≡ true → Filtering pass top w₀ (movedIn from to (top .columns) w) (kept + 1) (from + (top .columns)) (to + (top .columns)) (row + 1)
+    row-kept e =
+        let one : keptOf pass top w₀ (row + 1) ≡ (keptOf pass top w₀ row) ++ ((hereOf top w₀ row) ∷ []) = more ∙ rw e in
+        let cells : (hereOf top w₀ row) .cells ++ [] ≡ take (top .columns) (drop from (cellsIn w₀))
+        = append-nil ((hereOf top w₀ row) .cells) ∙ row-cells (cellsIn w₀) (top .at) (top .columns) row ∙ ap (λ (n : ℕ). take (top .columns) (drop n (cellsIn w₀))) (sym (s .from-is)) in
+        let longer : flat (keptOf pass top w₀ (row + 1)) ≡ flat (keptOf pass top w₀ row) ++ take (top .columns) (drop from (cellsIn w₀))
+        = ap flat one ∙ flat-append (keptOf pass top w₀ row) ((hereOf top w₀ row) ∷ []) ∙ ap (λ (t : List Cell). flat (keptOf pass top w₀ row) ++ t) cells in
+        record {
+          row-le = omega arith;
+          from-is = next;
+          kept-is = ap (λ (n : ℕ). n + 1) (s .kept-is) ∙ sym (ap length one ∙ length-append (keptOf pass top w₀ row) ((hereOf top w₀ row) ∷ []));
+          kept-le = omega (arith, s .kept-le);
+          to-is = omega (arith, s .to-is);
+          written = rw (longer, cells-moved w in-values in-labels)
+              (then-copied (s .written) from to (top .columns) (omega (arith, s .to-is, wide)) not-after (omega (arith, s .from-is, inside, memory-length w₀ i)));
+          same = kept-moved in-values in-labels (omega (arith, places)) (s .same);
+        }
 
-    pub filter-ends : {v : List ℤ} {l : List ℕ} {kept from to row : ℕ} → Filtering v l kept from to row → rows ≤ row → row ≡ rows
-    filter-ends s h = omega (arith, s .row-le)
+-- the row that the loop has come to: its test, and what follows by the answer
+module _ (column : ℕ) (comparison : Comparison) (operand : Operand) {top : LiveTable} {w₀ w : Work} {kept from to row : ℕ} (i : Inside top (length (w₀ .values)) (length (w₀ .labels)))
+    (s : Filtering (passes column comparison operand) top w₀ w kept from to row) (h : row < top .rows) (k : column < top .columns) (f : operandFits operand (top .columns) ≡ true) {answer : Bool}
+    (e : answer ≡ holds comparison (getD (w .values) (from + column) (pos 0)) (operandAt (w .values) from operand)) where
+  test-is : passes column comparison operand (rowOf (cellsIn w₀) (top .at) (top .columns) row) ≡ answer
+  test-is = ap₂ (holds comparison) (value-is i s h column k) (second operand f) ∙ sym e
+    where
+      second : (o : Operand) → operandFits o (top .columns) ≡ true → operandValue o (rowOf (cellsIn w₀) (top .at) (top .columns) row) ≡ operandAt (w .values) from o
+      second (Constant value) f = refl
+      second (Column other) f = value-is i s h other (ltb-true other (top .columns) f)
 
--- the test of the row that the loop has come to
-pub test-is : (at rows columns column : ℕ) (comparison : Comparison) (operand : Operand) (v₀ : List ℤ) (l₀ : List ℕ) (i : Inside at rows columns (length v₀) (length l₀))
-    {v : List ℤ} {l : List ℕ} {kept from to row : ℕ} (s : Filtering (passes column comparison operand) at rows columns v₀ l₀ v l kept from to row) → row < rows
-    → column < columns → operandFits operand columns ≡ true
-    → passes column comparison operand (rowOf (cellsOf v₀ l₀) at columns row) ≡ holds comparison (getD v (from + column) (pos 0)) (operandAt v from operand)
-test-is at rows columns column comparison operand v₀ l₀ i {v} {l} {kept} {from} {to} {row} s h k f =
-    ap₂ (holds comparison) (value-is (passes column comparison operand) at rows columns v₀ l₀ i s h column k) (second operand f)
-  where
-    second : (o : Operand) → operandFits o columns ≡ true → operandValue o (rowOf (cellsOf v₀ l₀) at columns row) ≡ operandAt v from o
-    second (Constant value) f = refl
-    second (Column other) f = value-is (passes column comparison operand) at rows columns v₀ l₀ i s h other (ltb-true other columns f)
+  pub passed : answer ≡ true → Filtering (passes column comparison operand) top w₀ (movedIn from to (top .columns) w) (kept + 1) (from + top .columns) (to + top .columns) (row + 1)
+  passed t = row-kept i s h (test-is ∙ t)
+
+  pub failed : answer ≡ false → Filtering (passes column comparison operand) top w₀ w kept (from + top .columns) to (row + 1)
+  failed t = row-skipped i s h (test-is ∙ t)

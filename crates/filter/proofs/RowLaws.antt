@@ -8,7 +8,7 @@ use lib.ListN.{length}
 use Rattle.plan.specs.Filter.{passing}
 use Rattle.plan.specs.Sense.{Each}
 use Rattle.plan.specs.Table.{Row}
-use Rattle.memory.proofs.Rows.{Wide}
+use Rattle.cells.specs.promises.Cells.{Wide}
 
 pub passing-append : (pass : Row → Bool) (xs ys : List Row) → passing pass (xs ++ ys) ≡ passing pass xs ++ passing pass ys
 passing-append pass [] ys = refl

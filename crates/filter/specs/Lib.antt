@@ -1,2 +1,2 @@
--- What the private functions of FILTER promise of the cells.
-pub mod Filtering
+-- The step FILTER over work memory. Nothing here is to be believed: `promises` has what its functions promise one another.
+pub mod promises

@@ -11,15 +11,20 @@ ghost use Rattle.plan.specs.declared.Step.the-variants.{Filter};
 ghost use Rattle.plan.specs.Filter as spec;
 ghost use Rattle.plan.specs.Table.{Table};
 ghost use Rattle.plan.specs.Widths.{operandFits};
-ghost use Rattle.memory.specs.Steps.{fits, Done};
-ghost use Rattle.memory.proofs.TopTable.{Inside};
-ghost use Rattle.filter.specs.Filtering as here;
-use memory::Answer;
-use memory::Place;
+ghost use Rattle.cells.specs.promises.Work.{work};
+ghost use Rattle.memory.specs.promises.Stack.{Inside};
+ghost use Rattle.memory.specs.promises.Steps.{Done};
+ghost use Rattle.filter.specs.promises.Filtering as here;
+use cells::Place;
+use kinds::Width;
+use memory::LiveTable;
+use memory::Refusal;
 use memory::Stack;
+use memory::StepAnswer;
 use memory::Stepped;
 use plan::Comparison;
 use plan::Operand;
+use plan::Step;
 
 // Keeps the rows of the top table in which the comparison of a column with the operand holds.
 pub fn filter(
@@ -30,74 +35,42 @@ pub fn filter(
     comparison: Comparison,
     operand: Operand,
 ) -> Stepped
-    ensures { λ r. ⌜ ((tables : List Table) → Done (Filter column comparison operand) tables (now (values .entry)) (now (labels .entry)) stack r (now (values .exit)) (now (labels .exit))) ⌝ }
+    ensures { λ r. ⌜ ((tables : List Table) → Done (Filter column comparison operand) tables (work (now (values .entry)) (now (labels .entry))) stack r (work (now (values .exit)) (now (labels .exit)))) ⌝ }
 {
-    if !filter_fits(values.len(), labels.len(), stack, column, operand) {
-        return Stepped {
-            answer: Answer::DoesNotFit,
-            stack: stack,
-        };
-    }
-    let slot = stack.depth - 1;
-    let all_rows = stack.rows;
-    let all_columns = stack.columns;
-    let rows = all_rows[slot];
-    let columns = all_columns[slot];
-    let at = 2048 * slot;
-    let found = memory::not_clear(labels, at, rows, columns, read_by(column, operand));
-    match found {
-        Place::At(row, place) => {
-            return Stepped {
-                answer: Answer::NotClear(row, place),
-                stack: stack,
-            };
-        }
-        Place::DoesNotFit => {
-            return Stepped {
-                answer: Answer::DoesNotFit,
-                stack: stack,
-            };
-        }
-        Place::Nowhere => {}
-    }
-    let kept = filter_rows(
-        values,
-        labels,
-        at,
-        rows,
-        columns,
+    let step = Step::Filter {
         column,
         comparison,
         operand,
-    );
-    Stepped {
-        answer: Answer::Made,
-        stack: memory::with_table(stack, slot, columns, kept),
-    }
-}
-
-// Whether the slices, the stack and the columns fit.
-fn filter_fits(values: usize, labels: usize, stack: Stack, column: usize, operand: Operand) -> bool
-    ensures { λ r. ⌜ ((comparison : Comparison) (tables : List ℕ) → r ≡ fits (Filter column comparison operand) tables values labels stack) ⌝ }
-{
-    if !memory::ready(values, labels, stack) {
-        return false;
-    }
-    let depth = stack.depth;
-    if depth < 1 {
-        return false;
-    }
-    let all_columns = stack.columns;
-    let columns = all_columns[depth - 1];
-    (column < columns) & operand_fits(operand, columns)
-}
-
-fn operand_fits(operand: Operand, columns: usize) -> bool
-    ensures { λ r. ⌜ r ≡ operandFits operand columns ⌝ }
-{
-    match operand {
-        Operand::Constant(_) => true,
-        Operand::Column(column) => column < columns,
+    };
+    let Width::Columns(columns) = memory::fit(values.len(), labels.len(), stack, step) else {
+        return Stepped {
+            answer: StepAnswer::DoesNotFit,
+            stack: stack,
+        };
+    };
+    let top = memory::live_table(stack, 0);
+    match cells::not_clear(
+        labels,
+        top.at,
+        top.rows,
+        top.columns,
+        read_by(column, operand),
+    ) {
+        Place::At(row, place) => Stepped {
+            answer: StepAnswer::Refused(Refusal::NotClear(row, place)),
+            stack: stack,
+        },
+        Place::DoesNotFit => Stepped {
+            answer: StepAnswer::DoesNotFit,
+            stack: stack,
+        },
+        Place::Nowhere => {
+            let kept = filter_rows(values, labels, top, column, comparison, operand);
+            Stepped {
+                answer: StepAnswer::Made,
+                stack: memory::with_table(stack, top.slot, columns, kept),
+            }
+        }
     }
 }
 
@@ -116,28 +89,26 @@ fn read_by(column: usize, operand: Operand) -> u32
 fn filter_rows(
     values: &mut [i64],
     labels: &mut [u32],
-    at: usize,
-    rows: usize,
-    columns: usize,
+    top: LiveTable,
     column: usize,
     comparison: Comparison,
     operand: Operand,
 ) -> usize
-    requires { ⌜ Inside at rows columns (length (now values)) (length (now labels)) ⌝ }
-    requires { ⌜ (column < columns) × (operandFits operand columns ≡ true) ⌝ }
-    ensures { λ r. ⌜ here.Filtered at rows columns column comparison operand (now (values .entry)) (now (labels .entry)) r (now (values .exit)) (now (labels .exit)) ⌝ }
+    requires { ⌜ Inside top (length (now values)) (length (now labels)) ⌝ }
+    requires { ⌜ (column < top .columns) × (operandFits operand (top .columns) ≡ true) ⌝ }
+    ensures { λ r. ⌜ here.Filtered top column comparison operand (work (now (values .entry)) (now (labels .entry))) r (work (now (values .exit)) (now (labels .exit))) ⌝ }
 {
     let mut kept = 0;
-    let mut from = at;
-    let mut to = at;
+    let mut from = top.at;
+    let mut to = top.at;
     let mut row = 0;
-    while row < rows {
+    while row < top.rows {
         if passes(values, from, column, comparison, operand) {
-            memory::move_cells(values, labels, from, to, columns);
-            to += columns;
+            cells::move_cells(values, labels, from, to, top.columns);
+            to += top.columns;
             kept += 1;
         }
-        from += columns;
+        from += top.columns;
         row += 1;
     }
     kept

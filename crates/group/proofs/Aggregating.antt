@@ -5,15 +5,15 @@ use mathlib.Core.List.{List, map}
 use native.Mathlib.Omega.{arith}
 use lib.IntN.{ℤ}
 use lib.ListN.{length, drop, length-map}
-use Rattle.group.specs.Members.{rowOf, rowsFrom, later, members}
-use Rattle.group.specs.Summaries.{valuesIn, single, summaryFrom, valueOf}
+use Rattle.group.specs.promises.Members.{rowOf, rowsFrom, later, members}
+use Rattle.group.specs.promises.Summaries.{valuesIn, single, summaryFrom, valueOf}
 use Rattle.group.specs.declared.Grouping.{Grouping}
 use Rattle.group.specs.declared.Summary.{Summary}
 use Rattle.plan.specs.Group.{aggregateValue}
 use Rattle.plan.specs.Table.{Cell, cellAt}
 use Rattle.group.proofs.Choosing.{chosen-fewer}
 use Rattle.group.proofs.Summing.{rows-from, value-is}
-use Rattle.memory.proofs.Rows.{rows-length}
+use Rattle.cells.proofs.Rows.{rows-length}
 
 module _ (g : Grouping) (memory : List Cell) (leaders : List ℕ) (row : ℕ) (s : Summary) (few : g .rows ≤ 256) (h : row < g .rows)
     (e : s ≡ summaryFrom (single (cellAt (g .column) (rowOf g memory row) .value)) (valuesIn (g .column) (later g memory leaders row))) where

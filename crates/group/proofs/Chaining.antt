@@ -8,7 +8,7 @@ use lib.Dec.{eqb}
 use lib.ListN.{length, getD, set, length-set}
 use lib.Seq.{getD-set-same, getD-set-other}
 use borrow.Author.Tests.{eqb-true, eqb-false}
-use Rattle.group.specs.Members.{FirstLed, Chain, Onward}
+use Rattle.group.specs.promises.Members.{FirstLed, Chain, Onward}
 
 -- the rows from one on have their next rows, and each number its first row among them
 pub record Chaining (rows : ℕ) (leaders next ahead : List ℕ) (row : ℕ) : Type 0 where

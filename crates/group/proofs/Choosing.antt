@@ -9,7 +9,7 @@ use lib.Dec.{eqb}
 use lib.ListN.{length, getD, drop}
 use lib.Seq.{drop-cons, drop-drop}
 use borrow.Author.Tests.{eq-eqb, ne-eqb}
-use Rattle.group.specs.Members.{rowAt, rowsIn, rowsFrom, chosen, FirstLed, Chain}
+use Rattle.group.specs.promises.Members.{rowAt, rowsIn, rowsFrom, chosen, FirstLed, Chain}
 use Rattle.group.specs.declared.Grouping.{Grouping}
 use Rattle.plan.specs.Sense.{Each}
 use Rattle.plan.specs.Table.{Cell, Row, rowsOf}

@@ -10,7 +10,7 @@ use lib.Dec.{eqb}
 use lib.ListN.{length, getD, take, drop, length-drop}
 use lib.Seq.{drop-cons, take-suc, take-nil, getD-take, getD-drop, length-take-le}
 use borrow.Author.Tests.{eq-eqb, ne-eqb}
-use Rattle.group.specs.Members.{firstSame, leadersAfter, chosen}
+use Rattle.group.specs.promises.Members.{firstSame, leadersAfter, chosen}
 use Rattle.plan.specs.Filter.{passing}
 use Rattle.plan.specs.Group.{sameKeys, anySame, groupsAfter}
 use Rattle.plan.specs.Table.{Row}

@@ -1,15 +1,15 @@
 -- Labels discharged and composed through the label library. Assumes nothing.
 use Prim.Native.Nat.{ℕ, _<_}
-use mathlib.Core.Path.{_≡_, refl, _∙_}
-use mathlib.Core.Bool.{true}
+use mathlib.Core.Path.{_≡_, refl, ap, _∙_}
+use mathlib.Core.Bool.{Bool, true, false, cond}
 use mathlib.Core.List.{List, _∷_}
 use native.Mathlib.Omega.{arith}
 use borrow.Author.Tests.{lt-ltb}
-use Rattle.group.specs.Members.{AllowedLabel, Allowed}
-use Rattle.group.specs.Summaries.{labelsIn}
-use Rattle.label.specs.Answers.{said, label}
+use Rattle.group.specs.promises.Members.{AllowedLabel, Allowed}
+use Rattle.group.specs.promises.Summaries.{labelsIn}
+use Rattle.label.specs.Answers.{Said, said, label, forbidden, refused}
 use Rattle.label.specs.Composition.{composed, composeAnswer}
-use Rattle.label.specs.Discharge.{afterA, aggregateExists, aggregated, aggregateAnswer}
+use Rattle.label.specs.Discharge.{forbidsA, afterA, aggregateExists, aggregated, aggregateAnswer}
 use Rattle.label.specs.WellFormed.{wellFormed}
 use Rattle.label.specs.declared.Answer.{Answer}
 use Rattle.label.specs.declared.Answer.the-variants.{Label, Forbidden, IllFormed, NoOperation}
@@ -26,6 +26,22 @@ is-label (Label w) word e = cc
 is-label Forbidden word e = cc
 is-label IllFormed word e = cc
 is-label NoOperation word e = cc
+
+-- whether the answer to an aggregate forbids it
+abbrev pub forbids : Said → Bool
+forbids (label left) = false
+forbids forbidden = true
+forbids (refused number place) = false
+
+pub forbids-is : (answer : Answer) (word code rows : ℕ) → said answer ≡ aggregateAnswer word code rows → wellFormed word ≡ true → code < 5 → forbids (said answer) ≡ forbidsA word
+unfolding aggregateAnswer aggregateExists aggregated
+forbids-is answer word code rows e w h =
+    let is : said answer ≡ cond (forbidsA word) forbidden (label (afterA word code rows)) = e ∙ rw (w, lt-ltb code 5 h) in
+    ap forbids is ∙ either (forbidsA word)
+  where
+    either : (b : Bool) → forbids (cond b forbidden (label (afterA word code rows))) ≡ b
+    either true = refl
+    either false = refl
 
 pub discharged : (answer : Answer) (word code rows : ℕ) → said answer ≡ aggregateAnswer word code rows → AllowedLabel word → code < 5 → answer ≡ Label (afterA word code rows)
 unfolding aggregateAnswer aggregateExists aggregated

@@ -1,18 +1,16 @@
 -- The laws of GROUP, for the evaluator to cite. Assumes nothing.
 use Prim.Native.Nat.{ℕ}
-use mathlib.Core.Path.{_≡_, refl}
-use mathlib.Core.Bool.{Bool, true, false, cond, _&&_, and-true}
+use mathlib.Core.Path.{_≡_}
+use mathlib.Core.Bool.{true, false, cond}
 use mathlib.Core.List.{List, [], _∷_, _++_, map}
-use lib.IntN.{ℤ}
 use lib.ListN.{length}
-use Rattle.group.specs.Grouping.{GroupDone}
-use Rattle.memory.specs.Labelled.{Formed, topFormed, LabelledRow, Labelled}
+use Rattle.cells.specs.promises.Labelled.{Formed, LabelledRow, Labelled}
+use Rattle.cells.specs.promises.Work.{Work}
+use Rattle.group.specs.promises.Fits.{groupFits}
 use Rattle.label.specs.WellFormed.{wellFormed}
-use Rattle.memory.specs.Cells.{cellsOf}
-use Rattle.memory.specs.Stack.{stackOf}
-use Rattle.memory.specs.Steps.{unfit, said, fits, widthsOf, Done}
 use Rattle.memory.specs.declared.Stack.{Stack}
-use Rattle.memory.specs.declared.Stepped.{Stepped}
+use Rattle.memory.specs.promises.Stack.{stackIn}
+use Rattle.memory.specs.promises.Steps.{fitsIn}
 use Rattle.plan.specs.Filter.{passing}
 use Rattle.plan.specs.Group.{sameKeys, anySame, groupsAfter, composedAfter, groupRow, grouped}
 use Rattle.plan.specs.Keep.{keptCells}
@@ -21,25 +19,16 @@ use Rattle.plan.specs.Sense.{Each}
 use Rattle.plan.specs.Table.{Row, Table, cellAt}
 use Rattle.plan.specs.declared.Aggregate.{Aggregate}
 use Rattle.plan.specs.declared.Step.the-variants.{Group}
+use Rattle.cells.proofs.LabelledTables.{cell-formed, kept-formed, passing-formed}
 use Rattle.group.proofs.Labels.{composed-formed}
-use Rattle.memory.proofs.LabelledTables.{cell-formed, top-formed, kept-formed, passing-formed}
 use Rattle.label.proofs.Laws.{zero-well-formed}
+use Rattle.memory.proofs.TopLabels.{top-formed}
 use Rattle.plan.proofs.SenseShape.{each-append, each-cond, each-map}
 
-module _ {keys : ℕ} {aggregate : Aggregate} {column : ℕ} {tables : List Table} {v : List ℤ} {l : List ℕ} {stack : Stack} {done : Stepped} {v′ : List ℤ} {l′ : List ℕ}
-    (d : GroupDone keys aggregate column tables v l stack done v′ l′) where
-  -- on live tables whose labels are well-formed, GROUP does what every step does
-  pub group-done : Each Labelled (stackOf (cellsOf v l) stack) → Done (Group keys aggregate column) tables v l stack done v′ l′
-  group-done e = d .otherwise (top-formed column v l stack e)
-
-  -- whatever does not fit changes nothing
-  pub group-misfit : (fits (Group keys aggregate column) (widthsOf tables) (length v) (length l) stack && topFormed column v l stack) ≡ false
-      → (said (done .answer) ≡ unfit) × (done .stack ≡ stack) × (v′ ≡ v) × (l′ ≡ l)
-  group-misfit f = either (topFormed column v l stack) refl
-    where
-      either : (b : Bool) → topFormed column v l stack ≡ b → (said (done .answer) ≡ unfit) × (done .stack ≡ stack) × (v′ ≡ v) × (l′ ≡ l)
-      either true e = d .otherwise e .misfit (rw (e, and-true) at f)
-      either false e = d .misfit e
+-- live tables whose labels are well-formed ask no more than every step
+pub group-fits : (keys : ℕ) (aggregate : Aggregate) (column : ℕ) (tables : List Table) (w : Work) (stack : Stack) → fitsIn (Group keys aggregate column) tables w stack ≡ true
+    → Each Labelled (stackIn w stack) → groupFits keys aggregate column tables w stack ≡ true
+group-fits keys aggregate column tables w stack t e = rw (t, top-formed column w stack e)
 
 -- ---- the labels that GROUP makes
 

@@ -6,10 +6,10 @@ use native.Mathlib.Numerals.{add-one}
 use native.Mathlib.Omega.{arith}
 use lib.ListN.{length, getD, take, drop, set}
 use lib.Seq.{drop-drop, take-suc, take-suc-set}
-use Rattle.group.specs.Members.{rowAt, rowOf, rowsIn, firstSame, leadersAfter}
+use Rattle.group.specs.promises.Members.{rowAt, rowOf, rowsIn, firstSame, leadersAfter}
 use Rattle.group.specs.declared.Grouping.{Grouping}
 use Rattle.plan.specs.Table.{Cell, Row, rowsOf}
-use Rattle.memory.proofs.Rows.{row-at, rows-length}
+use Rattle.cells.proofs.Rows.{row-at, rows-length}
 
 -- the rows from one on, whose first cell stands at a place
 pub rows-next : (columns rows row place : ℕ) (memory : List Cell) → row < rows

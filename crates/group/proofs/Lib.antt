@@ -3,19 +3,16 @@ mod Aggregating
 mod Chaining
 mod Choosing
 mod Columns
-mod Fitting
 mod Groups
 mod Labels
 mod Leading
 mod Listing
 mod Making
+mod Meaning
 mod Moving
 mod Reading
-mod Refusing
 mod Searching
-mod Stepping
 mod Summing
-mod Tags
 mod Walking
 mod Writing
 pub mod Laws

@@ -8,13 +8,14 @@ use native.Mathlib.Omega.{arith}
 use lib.IntN.{ℤ, pos}
 use lib.ListN.{length, getD, drop}
 use lib.Seq.{getD-take, getD-drop}
-use Rattle.group.specs.Members.{rowAt}
+use Rattle.group.specs.promises.Members.{rowAt}
 use Rattle.label.specs.Word.{bitAt}
-use Rattle.memory.specs.Cells.{cellsOf}
+use Rattle.cells.specs.promises.Cells.{cellsOf}
+use Rattle.cells.specs.promises.Work.{work}
 use Rattle.plan.specs.Group.{sameKeys}
 use Rattle.plan.specs.Table.{Cell, Row, blank, cellAt}
 use Rattle.comparison.specs.Comparison.{same}
-use Rattle.memory.proofs.CellLaws.{cells-get}
+use Rattle.cells.proofs.CellLaws.{cells-get}
 
 module _ (vs : List ℤ) (ls : List ℕ) (columns place column : ℕ) (h : column < columns) (v : place + columns ≤ length vs) (l : place + columns ≤ length ls) where
   -- a cell of the row that begins at a place
@@ -22,7 +23,7 @@ module _ (vs : List ℤ) (ls : List ℕ) (columns place column : ℕ) (h : colum
   cell-read =
       getD-take columns (drop place (cellsOf vs ls)) column blank h
       ∙ getD-drop place (cellsOf vs ls) column blank
-      ∙ cells-get vs ls (place + column) (pos 0) (omega arith) (omega arith)
+      ∙ cells-get (work vs ls) (place + column) (pos 0) (omega arith) (omega arith)
 
   pub value-read : cellAt column (rowAt columns (cellsOf vs ls) place) .value ≡ getD vs (place + column) (pos 0)
   value-read = ap (λ (cell : Cell). cell .value) cell-read

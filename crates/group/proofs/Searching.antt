@@ -10,11 +10,11 @@ use lib.Dec.{eqb}
 use lib.ListN.{length, getD, take, drop}
 use lib.Seq.{drop-drop, split-at, length-take-le}
 use borrow.Author.Tests.{eqb-true, eqb-false}
-use Rattle.group.specs.Members.{rowAt, firstSame, leadersAfter}
+use Rattle.group.specs.promises.Members.{rowAt, firstSame, leadersAfter}
 use Rattle.plan.specs.Group.{sameKeys, anySame}
 use Rattle.plan.specs.Table.{Cell, Row, rowsOf}
 use Rattle.group.proofs.Groups.{first-none, met-before, leads, before, new-leader, old-leader}
-use Rattle.memory.proofs.Rows.{row-at, rows-length}
+use Rattle.cells.proofs.Rows.{row-at, rows-length}
 use Rattle.plan.proofs.SenseGroups.{same-keys-sym}
 
 module _ (keys columns : ℕ) (row : Row) where

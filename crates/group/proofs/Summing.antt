@@ -6,7 +6,7 @@ use mathlib.Core.List.{List, [], _∷_, foldl}
 use native.Mathlib.Omega.{arith}
 use lib.IntN.{ℤ, pos}
 use lib.ListN.{length}
-use Rattle.group.specs.Summaries.{single, withValue, summaryFrom, valueOf}
+use Rattle.group.specs.promises.Summaries.{single, withValue, summaryFrom, valueOf}
 use Rattle.group.specs.declared.Summary.{Summary}
 use Rattle.plan.specs.Group.{foldedFrom, aggregateValue}
 use Rattle.plan.specs.declared.Aggregate.{Aggregate}

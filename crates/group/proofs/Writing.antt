@@ -9,14 +9,14 @@ use native.Mathlib.Omega.{arith}
 use lib.IntN.{ℤ, pos}
 use lib.ListN.{length, getD, drop, set}
 use lib.Seq.{getD-take, getD-drop}
-use Rattle.group.specs.Made.{cell}
-use Rattle.group.specs.Members.{rowAt}
+use Rattle.group.specs.promises.Members.{rowAt}
 use Rattle.label.specs.Word.{bitAt}
-use Rattle.memory.specs.Cells.{cellsOf}
+use Rattle.cells.specs.promises.Work.{Work, work, cellsIn}
+use Rattle.cells.specs.promises.Written.{Written}
 use Rattle.plan.specs.Keep.{keptCount, keptCells}
 use Rattle.plan.specs.Table.{Cell, blank, cellAt}
-use Rattle.memory.proofs.CellLaws.{cells-get, cells-set}
-use Rattle.memory.proofs.Written.{Written, one-written, read-below}
+use Rattle.cells.proofs.CellLaws.{cell, cells-get, cells-set}
+use Rattle.cells.proofs.Written.{one-written, read-below}
 use Rattle.plan.proofs.SenseShape.{kept-length}
 
 -- ---- how many columns are keys
@@ -36,28 +36,28 @@ count-le keys column columns h = let e : column + (columns - column) ≡ columns
 
 -- ---- one cell more
 
-module _ (memory : List Cell) (keys columns column from to : ℕ) (vs : List ℤ) (ls : List ℕ)
-    (w : Written memory to (keptCells keys column (rowAt columns memory from)) (cellsOf vs ls)) (h : column < columns) (below : from + columns ≤ to) where
-  pub key-passed : bitAt keys column ≡ false → Written memory to (keptCells keys (column + 1) (rowAt columns memory from)) (cellsOf vs ls)
+module _ (memory : List Cell) (keys columns column from to : ℕ) (m : Work)
+    (w : Written memory to (keptCells keys column (rowAt columns memory from)) (cellsIn m)) (h : column < columns) (below : from + columns ≤ to) where
+  pub key-passed : bitAt keys column ≡ false → Written memory to (keptCells keys (column + 1) (rowAt columns memory from)) (cellsIn m)
   key-passed e = rw (add-one column, e, append-nil) w
 
-  module _ (room : to + keptCount keys column < length memory) (in-values : from + column < length vs) (in-labels : from + column < length ls) where
-    read : cellAt column (rowAt columns memory from) ≡ cell (getD vs (from + column) (pos 0)) (getD ls (from + column) 0)
+  module _ (room : to + keptCount keys column < length memory) (in-values : from + column < length (m .values)) (in-labels : from + column < length (m .labels)) where
+    read : cellAt column (rowAt columns memory from) ≡ cell (getD (m .values) (from + column) (pos 0)) (getD (m .labels) (from + column) 0)
     read =
         getD-take columns (drop from memory) column blank h ∙ getD-drop from memory column blank
-        ∙ sym (read-below w (from + column) blank (omega arith)) ∙ cells-get vs ls (from + column) (pos 0) in-values in-labels
+        ∙ sym (read-below w (from + column) blank (omega arith)) ∙ cells-get m (from + column) (pos 0) in-values in-labels
 
     pub key-written : bitAt keys column ≡ true
         → Written memory to (keptCells keys (column + 1) (rowAt columns memory from))
-        (cellsOf (set vs (to + keptCount keys column) (getD vs (from + column) (pos 0))) (set ls (to + keptCount keys column) (getD ls (from + column) 0)))
+        (cellsIn (work (set (m .values) (to + keptCount keys column) (getD (m .values) (from + column) (pos 0))) (set (m .labels) (to + keptCount keys column) (getD (m .labels) (from + column) 0))))
     key-written e =
         let l : length (keptCells keys column (rowAt columns memory from)) ≡ keptCount keys column = kept-length keys column (rowAt columns memory from) in
-        rw (add-one column, e, cells-set vs ls (to + keptCount keys column) (getD vs (from + column) (pos 0)) (getD ls (from + column) 0), read) (rw l at (one-written w (cell (getD vs (from + column) (pos 0)) (getD ls (from + column) 0)) (rw l room)))
+        rw (add-one column, e, cells-set m (to + keptCount keys column) (getD (m .values) (from + column) (pos 0)) (getD (m .labels) (from + column) 0), read) (rw l at (one-written w (cell (getD (m .values) (from + column) (pos 0)) (getD (m .labels) (from + column) 0)) (rw l room)))
 
 -- the aggregate, after the keys
-pub last-written : (memory : List Cell) (keys columns from to : ℕ) (vs : List ℤ) (ls : List ℕ) (v : ℤ) (l : ℕ) → Written memory to (keptCells keys columns (rowAt columns memory from)) (cellsOf vs ls)
+pub last-written : (memory : List Cell) (keys columns from to : ℕ) (m : Work) (v : ℤ) (l : ℕ) → Written memory to (keptCells keys columns (rowAt columns memory from)) (cellsIn m)
     → to + keptCount keys columns < length memory
-    → Written memory to (keptCells keys columns (rowAt columns memory from) ++ (cell v l ∷ [])) (cellsOf (set vs (to + keptCount keys columns) v) (set ls (to + keptCount keys columns) l))
-last-written memory keys columns from to vs ls v l w room =
+    → Written memory to (keptCells keys columns (rowAt columns memory from) ++ (cell v l ∷ [])) (cellsIn (work (set (m .values) (to + keptCount keys columns) v) (set (m .labels) (to + keptCount keys columns) l)))
+last-written memory keys columns from to m v l w room =
     let e : length (keptCells keys columns (rowAt columns memory from)) ≡ keptCount keys columns = kept-length keys columns (rowAt columns memory from) in
-    rw (cells-set vs ls (to + keptCount keys columns) v l) (rw e at (one-written w (cell v l) (rw e room)))
+    rw (cells-set m (to + keptCount keys columns) v l) (rw e at (one-written w (cell v l) (rw e room)))

@@ -1,5 +1,2 @@
--- GROUP over work memory. `Grouping` has what the step promises; the other files are what its private functions promise each other.
-pub mod Grouping
-pub mod Made
-pub mod Members
-pub mod Summaries
+-- The step GROUP over work memory. Nothing here is to be believed: `promises` has what the crates promise one another.
+pub mod promises

@@ -11,12 +11,11 @@ ghost use Rattle.label.specs.WellFormed.{wellFormed};
 ghost use Rattle.plan.specs.Group.{composedAfter};
 ghost use Rattle.plan.specs.Numbers.{aggregateCode};
 ghost use Rattle.plan.specs.Sense.{Each};
-ghost use Rattle.memory.specs.Cells.{cellsOf};
-ghost use Rattle.group.specs.Members as spec;
-ghost use Rattle.group.specs.Summaries as sums;
+ghost use Rattle.cells.specs.promises.Cells.{cellsOf};
+ghost use Rattle.group.specs.promises.Members as spec;
+ghost use Rattle.group.specs.promises.Summaries as sums;
 use crate::Grouping;
 use label::Answer;
-use plan::Aggregate;
 
 // The labels of the group that a row leads, each discharged over so many rows, composed in row order.
 pub fn group_label(labels: &[u32], next: &[usize; 256], g: Grouping, row: usize, size: u32) -> u32
@@ -29,7 +28,7 @@ pub fn group_label(labels: &[u32], next: &[usize; 256], g: Grouping, row: usize,
     let column = g.column;
     let at = g.at;
     let aggregate = g.aggregate;
-    let code = code_of(aggregate);
+    let code = kinds::aggregate_code(aggregate);
     let first = at + row * columns;
     let mut all = with_label(0, labels[first + column], code, size);
     let mut other = next[row];
@@ -54,17 +53,4 @@ fn with_label(all: u32, next: u32, code: u32, size: u32) -> u32
         return 0;
     };
     both
-}
-
-// An aggregate's number.
-fn code_of(aggregate: Aggregate) -> u32
-    ensures { λ r. ⌜ r ≡ aggregateCode aggregate ⌝ }
-{
-    match aggregate {
-        Aggregate::Count => 0,
-        Aggregate::Sum => 1,
-        Aggregate::Min => 2,
-        Aggregate::Max => 3,
-        Aggregate::Avg => 4,
-    }
 }

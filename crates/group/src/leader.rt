@@ -4,8 +4,8 @@ ghost use mathlib.Core.List.{List, []};
 ghost use Prim.Native.Nat.{ℕ, _+_, _≤_, _<_};
 ghost use lib.ListN.{length, getD, take};
 ghost use Rattle.plan.specs.Group.{sameKeys};
-ghost use Rattle.memory.specs.Cells.{cellsOf};
-ghost use Rattle.group.specs.Members as spec;
+ghost use Rattle.cells.specs.promises.Cells.{cellsOf};
+ghost use Rattle.group.specs.promises.Members as spec;
 use crate::Grouping;
 use comparison::same;
 

@@ -1,5 +1,4 @@
 // GROUP over work memory. The rows of the groups are made in the last slot, above the table that is grouped, and then copied down over it.
-mod fit;
 mod labelling;
 mod leader;
 mod made;
@@ -10,7 +9,7 @@ mod step;
 use plan::Aggregate;
 pub use step::group;
 
-// A GROUP of the table of so many rows and columns from a place of work memory on.
+// A GROUP of the table of so many rows and columns from a place of work memory on, and the width of the rows made.
 struct Grouping {
     at: usize,
     rows: usize,
@@ -18,6 +17,7 @@ struct Grouping {
     keys: u32,
     aggregate: Aggregate,
     column: usize,
+    width: usize,
 }
 
 // What the aggregates of a group are made of: its rows, whether all its values are in range, their running sum, the smallest and the

@@ -1,22 +1,25 @@
-// The step.
+// "Groups in order of first appearance: keys, then the aggregate".
 ghost use mathlib.Core.Path.{_≡_};
 ghost use mathlib.Core.List.{List};
-ghost use Prim.Native.Nat.{_≤_};
+ghost use Rattle.cells.specs.promises.Work.{work};
+ghost use Rattle.memory.specs.promises.Steps.{DoneWhere};
 ghost use Rattle.plan.specs.Table.{Table};
-ghost use Rattle.group.specs.Grouping.{GroupDone};
-ghost use Rattle.group.specs.Members.{sourceOf};
+ghost use Rattle.plan.specs.declared.Step.the-variants.{Group};
+ghost use Rattle.group.specs.promises.Fits.{groupFits};
+ghost use Rattle.group.specs.promises.Members.{groupingOf};
 use crate::Grouping;
-use crate::fit::fits;
-use crate::fit::key_count;
 use crate::made::replace;
 use crate::refusal::refusal;
-use memory::Answer;
+use kinds::Width;
+use memory::LiveTable;
 use memory::Stack;
+use memory::StepAnswer;
 use memory::Stepped;
 use plan::Aggregate;
+use plan::Step;
 
 // Groups the rows of the last table pushed by the columns of a mask, and puts the groups, each its keys and the aggregate of a column,
-// in its place.
+// in its place. Labels of the column that are not well-formed do not fit.
 pub fn group(
     values: &mut [i64],
     labels: &mut [u32],
@@ -25,44 +28,63 @@ pub fn group(
     aggregate: Aggregate,
     column: usize,
 ) -> Stepped
-    ensures { λ r. ⌜ ((tables : List Table) → GroupDone keys aggregate column tables (now (values .entry)) (now (labels .entry)) stack r (now (values .exit)) (now (labels .exit))) ⌝ }
+    ensures { λ r. ⌜ ((tables : List Table) → DoneWhere (groupFits keys aggregate column tables (work (now (values .entry)) (now (labels .entry))) stack) (Group keys aggregate column) tables (work (now (values .entry)) (now (labels .entry))) stack r (work (now (values .exit)) (now (labels .exit)))) ⌝ }
 {
-    if !fits(values.len(), labels.len(), stack, keys, column) {
+    let step = Step::Group {
+        keys,
+        aggregate,
+        column,
+    };
+    let Width::Columns(columns) = memory::fit(values.len(), labels.len(), stack, step) else {
         return Stepped {
-            answer: Answer::DoesNotFit,
-            stack: stack,
-        };
-    }
-    let g = source(stack, keys, aggregate, column);
-    let answer = refusal(labels, g);
-    let Answer::Made = answer else {
-        return Stepped {
-            answer: answer,
+            answer: StepAnswer::DoesNotFit,
             stack: stack,
         };
     };
-    let count = replace(values, labels, g);
-    let width = key_count(g.keys, g.columns) + 1;
-    Stepped {
-        answer: Answer::Made,
-        stack: memory::with_table(stack, stack.depth - 1, width, count),
+    let top = memory::live_table(stack, 0);
+    if !cells::column_formed(labels, top.at, top.rows, top.columns, column) {
+        return Stepped {
+            answer: StepAnswer::DoesNotFit,
+            stack: stack,
+        };
+    }
+    let g = grouping(top, keys, aggregate, column, columns);
+    match refusal(labels, g) {
+        StepAnswer::Refused(refusal) => Stepped {
+            answer: StepAnswer::Refused(refusal),
+            stack: stack,
+        },
+        StepAnswer::DoesNotFit => Stepped {
+            answer: StepAnswer::DoesNotFit,
+            stack: stack,
+        },
+        StepAnswer::Made => {
+            let count = replace(values, labels, g);
+            Stepped {
+                answer: StepAnswer::Made,
+                stack: memory::with_table(stack, top.slot, columns, count),
+            }
+        }
     }
 }
 
-// The GROUP of the last table pushed.
-fn source(stack: Stack, keys: u32, aggregate: Aggregate, column: usize) -> Grouping
-    requires { ⌜ (1 ≤ stack .depth) × (stack .depth ≤ 3) ⌝ }
-    ensures { λ r. ⌜ r ≡ sourceOf stack keys aggregate column ⌝ }
+// The GROUP of a live table.
+fn grouping(
+    table: LiveTable,
+    keys: u32,
+    aggregate: Aggregate,
+    column: usize,
+    width: usize,
+) -> Grouping
+    ensures { λ r. ⌜ r ≡ groupingOf table keys aggregate column width ⌝ }
 {
-    let index = stack.depth - 1;
-    let all_rows = stack.rows;
-    let all_columns = stack.columns;
     Grouping {
-        at: 2048 * index,
-        rows: all_rows[index],
-        columns: all_columns[index],
+        at: table.at,
+        rows: table.rows,
+        columns: table.columns,
         keys: keys,
         aggregate: aggregate,
         column: column,
+        width: width,
     }
 }

@@ -1,162 +1,127 @@
 -- The rows made, copied down to the left table's slot, and what the step then answers. Assumes nothing.
-use Prim.Native.Nat.{ℕ, _+_, _-_, _*_, _≤_, _<_}
-use mathlib.Core.Path.{_≡_, refl, sym, ap, ap₂, _∙_}
-use mathlib.Core.Bool.{Bool, true, false, cond, true≢false}
-use mathlib.Core.List.{List, _∷_, _++_}
+use Prim.Native.Nat.{ℕ, _+_, _*_, _≤_, _<_}
+use mathlib.Core.Path.{_≡_, refl, sym, ap, _∙_}
+use mathlib.Core.Bool.{Bool, true, false}
+use mathlib.Core.List.{List, map}
 use native.Mathlib.Nat.{zero-add, zero-mul}
 use native.Mathlib.Omega.{arith}
 use lib.Dec.{ltb}
-use lib.IntN.{ℤ}
-use lib.ListN.{length, take, drop}
-use lib.Seq.{take-at, take-take}
+use lib.ListN.{length, take}
 use borrow.Author.Tests.{lt-ltb, le-ltb, ltb-true, ltb-false}
-use Rattle.join.specs.Ends.{Finished}
-use Rattle.join.specs.Pairs.{Sides, Grown, width, rowsIn, labelsIn, allRows}
+use Rattle.cells.specs.declared.Place.the-variants.{At, Nowhere, DoesNotFit}
+use Rattle.cells.specs.promises.Cells.{flat, Wide}
+use Rattle.cells.specs.promises.Search.{says, placeSays}
+use Rattle.cells.specs.promises.Work.{Work, cellsIn, Kept}
+use Rattle.cells.specs.promises.Written.{Put}
 use Rattle.join.specs.declared.Side.{Side}
-use Rattle.memory.specs.Cells.{cellsOf, flat, moved, movesWithin, Kept}
-use Rattle.memory.specs.Search.{told}
-use Rattle.memory.specs.Stack.{ready, slot, stackOf, withTable}
-use Rattle.memory.specs.Steps.{says, verdict, fits, widthsOf, Done}
-use Rattle.memory.specs.declared.Answer.the-variants.{Made, NotClear, TooMany}
-use Rattle.memory.specs.declared.Place.the-variants.{At, Nowhere}
+use Rattle.join.specs.promises.Ends.{sideOf, Finished}
+use Rattle.join.specs.promises.Pairs.{Sides, Grown, width, rowsIn, labelsIn, allRows}
+use Rattle.memory.specs.declared.LiveTable.{LiveTable}
+use Rattle.memory.specs.declared.Refusal.the-variants.{NotClear, TooMany}
 use Rattle.memory.specs.declared.Stack.{Stack}
+use Rattle.memory.specs.declared.StepAnswer.the-variants.{Made, Refused}
 use Rattle.memory.specs.declared.Stepped.{Stepped}
+use Rattle.memory.specs.promises.Stack.{lastSlot, stackIn, withTable, RowsAt}
+use Rattle.memory.specs.promises.Steps.{verdict, fitsIn, leavesRows, Done}
 use Rattle.plan.specs.Join.{checkJoin}
 use Rattle.plan.specs.Sense.{Each}
-use Rattle.plan.specs.Steps.{make}
-use Rattle.plan.specs.Table.{Cell, Row, Table, rowsOf}
+use Rattle.plan.specs.Table.{Cell, Row, Table}
 use Rattle.plan.specs.Verdict.{Verdict, fine, refused, orElse, refuseIf}
 use Rattle.plan.specs.declared.Step.the-variants.{Join}
-use Rattle.join.proofs.Above.{cells-same}
-use Rattle.join.proofs.Growing.{room, rows-in-wide}
+use Rattle.cells.proofs.CellLaws.{movedIn, values-front, labels-front}
+use Rattle.cells.proofs.RowReads.{flat-length}
+use Rattle.cells.proofs.Written.{Moves}
+use Rattle.join.proofs.Growing.{cells-room, rows-in-wide}
 use Rattle.join.proofs.Joining.{rows-joined-wide}
-use Rattle.join.proofs.Meaning.{JoinFits, leftSide, rightSide, join-parts, join-verdict, made-is}
-use Rattle.memory.proofs.CellLaws.{cells-length, both-move, cells-moved, kept-moved}
-use Rattle.memory.proofs.Finish.{says-is, refused-done, made-done}
-use Rattle.memory.proofs.RowReads.{flat-length}
-use Rattle.memory.proofs.Rows.{Wide, rows-flat}
-use Rattle.memory.proofs.Stacks.{fits-slot, to-ready, with-ready, stack-with}
-use Rattle.memory.proofs.Written.{Moves, down, Written, nothing-written, then-copied, as-long, from-written, below-written}
+use Rattle.join.proofs.Meaning.{JoinFits, join-verdict, made-is}
+use Rattle.memory.proofs.Finish.{says-is, unchanged-done, refused-done, rows-done}
+use Rattle.memory.proofs.LiveTables.{at-is}
+use Rattle.memory.proofs.MovedDown.{down-values, down-labels, moved-down}
+use Rattle.memory.proofs.Stacks.{fits-slot}
 
-module _ (stack : Stack) (index : ℕ) (left right : Side) (vs : List ℤ) (ls : List ℕ) (sides : Sides (length vs) (length ls) left right) where
-  abbrev all : List Row
-  all = allRows (cellsOf vs ls) left right
+module _ (stack : Stack) (index : ℕ) {left right : Side} {w : Work} (sides : Sides (length (w .values)) (length (w .labels)) left right) {u : Work} {count : ℕ}
+    (g : Grown 0 left right (allRows (cellsIn w) left right) w count u) where
+  pub finished-over : 256 < count → Finished stack index left right w (record { answer = Refused TooMany; stack = stack }) u
+  finished-over h = record { refused = λ _. (refl, g .below); made = λ k. absurd (omega (arith, g .counted)); kept = g .kept }
 
-  abbrev w : ℕ
-  w = width left right
-
-  pub finished-over : {us : List ℤ} {ks : List ℕ} {count : ℕ} → Grown 0 left right all vs ls count us ks → 256 < count
-      → Finished stack index left right vs ls (record { answer = TooMany; stack = stack }) us ks
-  finished-over g h = record { refused = λ _. refl; made = λ k. absurd (omega (arith, g .counted)); kept = g .kept }
-
-  all-wide : Each (Wide w) all
+  all-wide : Each (Wide (width left right)) (allRows (cellsIn w) left right)
   all-wide =
-      rows-joined-wide (left .key) (right .key) (left .columns) (right .columns) (sides .left-key) (sides .right-key) (rowsIn (cellsOf vs ls) left) (rowsIn (cellsOf vs ls) right)
-      (rows-in-wide vs ls sides left (sides .left-below)) (rows-in-wide vs ls sides right (sides .right-below))
+      rows-joined-wide (left .key) (right .key) (left .columns) (right .columns) (sides .left-key) (sides .right-key) (rowsIn (cellsIn w) left) (rowsIn (cellsIn w) right)
+      (rows-in-wide w sides left (sides .left-below)) (rows-in-wide w sides right (sides .right-below))
 
-  module _ {us : List ℤ} {ks : List ℕ} {count : ℕ} (g : Grown 0 left right all vs ls count us ks) (h : count ≤ 256) where
-    total : count ≡ length all
+  module _ (h : count ≤ 256) where
+    total : length (allRows (cellsIn w) left right) ≡ count
     total = omega (arith, g .counted)
 
+    few : count * width left right ≤ 2048
+    few = fits-slot count (width left right) h (sides .few)
+
     -- the rows stand in the last slot
-    above : Written (cellsOf vs ls) 6144 (flat all) (cellsOf us ks)
+    above : Put lastSlot (flat (allRows (cellsIn w) left right)) w u
     above =
-        let e : 6144 + 0 * w ≡ 6144 = omega (arith, zero-mul w) in
-        let slot = fits-slot (length all) w (omega (arith, total)) (sides .few) in
+        let e : lastSlot + 0 * width left right ≡ lastSlot = omega (arith, zero-mul (width left right)) in
+        let long = flat-length (width left right) (allRows (cellsIn w) left right) all-wide ∙ ap (λ (n : ℕ). n * width left right) total in
         record {
-          room = omega (arith, room vs ls sides, flat-length w all all-wide);
-          is = rw e at (g .put (omega (arith, total)));
+          written = record { room = omega (arith, cells-room w sides, long, few); is = rw e at (g .put (omega (arith, total))) };
+          kept = g .kept;
         }
 
-    pub finished-made : {ws : List ℤ} {ms : List ℕ} (moves : Bool) (after : Stack) → moves ≡ movesWithin us ks 6144 (left .at) (count * w)
-        → ws ≡ cond moves (moved 6144 (left .at) (count * w) us) us → ms ≡ cond moves (moved 6144 (left .at) (count * w) ks) ks → after ≡ withTable stack index w count
-        → Finished stack index left right vs ls (record { answer = Made; stack = after }) ws ms
-    finished-made {ws} {ms} moves after e ev el is =
-        let at = left .at in
-        let n = count * w in
-        let slot : n ≤ 2048 = fits-slot count w h (sides .few) in
-        let low : at ≤ 6144 = omega (arith, sides .left-below) in
-        let in-values : Moves 6144 at n (length us) = down low (omega (arith, g .kept .as-many-values, sides .values-room)) in
-        let in-labels : Moves 6144 at n (length ks) = down low (omega (arith, g .kept .as-many-labels, sides .labels-room)) in
-        let moves-is : moves ≡ true = e ∙ both-move us ks in-values in-labels in
-        let values-are : ws ≡ moved 6144 at n us = ev ∙ rw moves-is in
-        let labels-are : ms ≡ moved 6144 at n ks = el ∙ rw moves-is in
-        let memory = cellsOf us ks in
-        let cells : cellsOf ws ms ≡ moved 6144 at n memory = ap₂ cellsOf values-are labels-are ∙ cells-moved us ks in-values in-labels in
-        let long : length memory ≡ length (cellsOf vs ls) = as-long above in
-        let copied : Written memory at (take n (drop 6144 memory)) (cellsOf ws ms) = rw cells (then-copied (nothing-written memory at (omega (arith, room vs ls sides))) 6144 at n (omega arith) low (omega (arith, room vs ls sides))) in
-        let rows : take n (drop 6144 memory) ≡ flat all = ap (take n) (from-written above) ∙ take-at (flat all) _ n (flat-length w all all-wide ∙ ap (λ (m : ℕ). m * w) (sym total)) in
+    pub rows-values : Moves lastSlot (left .at) (count * width left right) (length (u .values))
+    rows-values = down-values (left .at) (width left right) count (allRows (cellsIn w) left right) above all-wide total (omega (arith, sides .left-below)) few (sides .values-room) (sides .labels-room)
+
+    pub rows-labels : Moves lastSlot (left .at) (count * width left right) (length (u .labels))
+    rows-labels = down-labels (left .at) (width left right) count (allRows (cellsIn w) left right) above all-wide total (omega (arith, sides .left-below)) few (sides .values-room) (sides .labels-room)
+
+    pub finished-made : {after : Stack} → after ≡ withTable stack index (width left right) count
+        → Finished stack index left right w (record { answer = Made; stack = after }) (movedIn lastSlot (left .at) (count * width left right) u)
+    finished-made {after} is =
+        let down = moved-down (left .at) (width left right) count (allRows (cellsIn w) left right) above all-wide total (omega (arith, sides .left-below)) few (sides .values-room) (sides .labels-room) in
         record {
           refused = λ k. absurd (omega (arith, total));
           made = λ k. (
-            (λ i. record { answer = Made; stack = (is ∙ ap (withTable stack index w) total) i }),
-            ap (rowsOf w (length all)) (from-written copied ∙ ap (λ (l : List Cell). l ++ drop (at + length (take n (drop 6144 memory))) memory) rows) ∙ rows-flat w all _ all-wide,
-            below-written copied ∙ sym (take-take at 6144 memory low) ∙ ap (take at) (g .below) ∙ take-take at 6144 (cellsOf vs ls) low,
+            (λ i. record { answer = Made; stack = (is ∙ ap (withTable stack index (width left right)) (sym total)) i }),
+            rw total down,
           );
-          kept = rw (values-are, labels-are) (kept-moved in-values in-labels (omega arith) (g .kept));
+          kept = down .kept;
         }
 
 -- ---- the three ends of a join that fits
 
-module _ (tables : List Table) (vs : List ℤ) (ls : List ℕ) (stack : Stack) (left right : ℕ) (t : fits (Join left right) (widthsOf tables) (length vs) (length ls) stack ≡ true)
-    (l r : Side) (el : l ≡ leftSide stack left) (er : r ≡ rightSide stack right) where
-  f : JoinFits left right (length vs) (length ls) stack
-  f = join-parts left right (widthsOf tables) (length vs) (length ls) stack t
-
+module _ (left right : ℕ) (tables : List Table) (w : Work) (stack : Stack) {lower upper : LiveTable} {columns : ℕ} (t : fitsIn (Join left right) tables w stack ≡ true)
+    (f : JoinFits left right (length (w .values)) (length (w .labels)) stack lower upper columns) where
   abbrev keys : Verdict
-  keys = checkJoin (l .key) (r .key) (labelsIn ls l) (labelsIn ls r)
+  keys = checkJoin left right (labelsIn (w .labels) (sideOf lower left)) (labelsIn (w .labels) (sideOf upper right))
 
   abbrev rows : List Row
-  rows = allRows (cellsOf vs ls) l r
+  rows = allRows (cellsIn w) (sideOf lower left) (sideOf upper right)
 
-  verdict-is : verdict (Join left right) tables (stackOf (cellsOf vs ls) stack) ≡ orElse keys (refuseIf (ltb 256 (length rows)) 34 256 0)
-  verdict-is = rw (el, er) (join-verdict tables vs ls stack left right f)
+  pub key-done : {row column : ℕ} → placeSays 31 0 (At row column) ≡ says keys → Done (Join left right) tables w stack (record { answer = Refused (NotClear row column); stack = stack }) w
+  key-done {row} {column} e = unchanged-done (Join left right) tables w stack t (NotClear row column) (join-verdict left right tables w stack f ∙ rw (← says-is e, zero-add row))
 
-  pub key-done : {row column : ℕ} → told 31 0 (At row column) ≡ says keys → Done (Join left right) tables vs ls stack (record { answer = NotClear row column; stack = stack }) vs ls
-  key-done {row} {column} e =
-      refused-done (Join left right) tables vs ls stack t (NotClear row column) refl (verdict-is ∙ rw (← says-is e, zero-add row))
-
-  over-done : {us : List ℤ} {ks : List ℕ} → keys ≡ fine → 256 < length rows → Kept vs ls us ks → Done (Join left right) tables vs ls stack (record { answer = TooMany; stack = stack }) us ks
-  over-done e h k =
-      let v : verdict (Join left right) tables (stackOf (cellsOf vs ls) stack) ≡ refused 34 256 0 = verdict-is ∙ rw (e, lt-ltb 256 (length rows) h) in
-      record {
-        misfit = λ n. absurd (true≢false (sym t ∙ n));
-        refusal = λ _. ap says (sym v);
-        result = λ _ n. absurd (never (sym v ∙ n));
-        still = λ _ n. absurd (never (sym v ∙ n));
-        kept = k;
-      }
+  over-done : {u : Work} → keys ≡ fine → 256 < length rows → take lastSlot (cellsIn u) ≡ take lastSlot (cellsIn w) → Kept w u
+      → Done (Join left right) tables w stack (record { answer = Refused TooMany; stack = stack }) u
+  over-done {u} e h below k =
+      let v = f .sides .values-room in
+      let l = f .sides .labels-room in
+      refused-done (Join left right) tables w stack t TooMany u (join-verdict left right tables w stack f ∙ rw (e, lt-ltb 256 (length rows) h)) k
+      (sym (values-front u lastSlot (omega (arith, k .as-many-labels))) ∙ ap (map (λ cell. cell .value)) below ∙ values-front w lastSlot (omega arith))
+      (sym (labels-front u lastSlot (omega (arith, k .as-many-values))) ∙ ap (map (λ cell. cell .label)) below ∙ labels-front w lastSlot (omega arith))
+      (λ number row column r n. leaves r n)
     where
-      never : refused 34 256 0 ≡ fine → ⊥
-      never n = let z : _≡_ {A = ℕ} 0 1 = cc in omega arith
+      leaves : {number row column : ℕ} {A : Type 0} → refused 34 256 0 ≡ refused number row column → leavesRows (Join left right) number ≡ false → A
+      leaves {number} r n = let same : 34 ≡ number = cc in let z : true ≡ false = rw (← same) at n in absurd (let o : _≡_ {A = ℕ} 0 1 = cc in omega arith)
 
-  made-rows-done : {us : List ℤ} {ks : List ℕ} → keys ≡ fine → length rows ≤ 256 → rowsOf (width l r) (length rows) (drop (l .at) (cellsOf us ks)) ≡ rows
-      → take (l .at) (cellsOf us ks) ≡ take (l .at) (cellsOf vs ls) → Kept vs ls us ks
-      → Done (Join left right) tables vs ls stack (record { answer = Made; stack = withTable stack (stack .depth - 2) (width l r) (length rows) }) us ks
-  made-rows-done {us} {ks} e h read lower k =
-      let index = stack .depth - 2 in
-      let ready-is = f .ready-is in
-      let low : index < 3 = omega (arith, ready-is .depth) in
-      let depth : stack .depth ≡ index + 2 = omega (arith, f .two) in
-      let place : l .at ≡ slot index = ap (λ (side : Side). side .at) el in
-      let sides : Sides (length vs) (length ls) l r = rw (el, er) (f .sides) in
-      let made : make (Join left right) tables (stackOf (cellsOf vs ls) stack) ≡ record { columns = width l r; rows = rows } = rw (el, er) (made-is tables vs ls stack left right f) in
-      let stands = stack-with (cellsOf vs ls) (cellsOf us ks) stack index 2 (width l r) (length rows) rows ready-is
-      (cells-length vs ls 8192 (ready-is .values-room) (ready-is .labels-room)) (cells-same k) low depth (rw place at lower)
-      (ap (λ (n : ℕ). rowsOf (width l r) (length rows) (drop n (cellsOf us ks))) (sym place) ∙ read) in
-      let after = withTable stack index (width l r) (length rows) in
-      let again = with-ready (length vs) (length ls) stack index (width l r) (length rows) ready-is low (sides .few) h in
-      made-done (Join left right) tables vs ls stack t after us ks (verdict-is ∙ rw (e, le-ltb 256 (length rows) h))
-      (stands ∙ ap (λ (table : Table). table ∷ drop 2 (stackOf (cellsOf vs ls) stack)) (sym made))
-      (ap₂ (λ (m n : ℕ). ready m n after) (k .as-many-values) (k .as-many-labels) ∙ to-ready _ _ _ again) k
+  made-done : {u : Work} → keys ≡ fine → length rows ≤ 256
+      → RowsAt (lower .at) (width (sideOf lower left) (sideOf upper right)) (length rows) rows w u
+      → Done (Join left right) tables w stack (record { answer = Made; stack = withTable stack (lower .slot) (width (sideOf lower left) (sideOf upper right)) (length rows) }) u
+  made-done {u} e h stand =
+      rows-done (Join left right) tables w stack t (lower .slot) (width (sideOf lower left) (sideOf upper right)) (length rows) rows u (f .ready-is)
+      (join-verdict left right tables w stack f ∙ rw (e, le-ltb 256 (length rows) h)) (f .below .low) (f .below .depth-is) (made-is left right tables w stack f) (f .sides .few) h refl (at-is (f .below)) stand
 
-  pub rows-done : {done : Stepped} {us : List ℤ} {ks : List ℕ} → told 31 0 Nowhere ≡ says keys → Finished stack (stack .depth - 2) l r vs ls done us ks
-      → Done (Join left right) tables vs ls stack done us ks
-  rows-done {done} {us} {ks} e g = go (ltb 256 (length rows)) refl
+  pub rows-made-done : {done : Stepped} {u : Work} → placeSays 31 0 Nowhere ≡ says keys → Finished stack (lower .slot) (sideOf lower left) (sideOf upper right) w done u
+      → Done (Join left right) tables w stack done u
+  rows-made-done {done} {u} e g = go (ltb 256 (length rows)) refl
     where
-      go : (b : Bool) → ltb 256 (length rows) ≡ b → Done (Join left right) tables vs ls stack done us ks
-      go true b = let h = ltb-true 256 (length rows) b in rw (g .refused h) (over-done (sym (says-is e)) h (g .kept))
-      go false b =
-          let h = ltb-false 256 (length rows) b in
-          let m = g .made h in
-          rw (m .0) (made-rows-done (sym (says-is e)) h (m .1) (m .2) (g .kept))
+      go : (b : Bool) → ltb 256 (length rows) ≡ b → Done (Join left right) tables w stack done u
+      go true b = let r = g .refused (ltb-true 256 (length rows) b) in rw (r .0) (over-done (sym (says-is e)) (ltb-true 256 (length rows) b) (r .1) (g .kept))
+      go false b = let m = g .made (ltb-false 256 (length rows) b) in rw (m .0) (made-done (sym (says-is e)) (ltb-false 256 (length rows) b) (m .1))

@@ -13,7 +13,8 @@ use Rattle.plan.specs.Steps.{make}
 use Rattle.plan.specs.Table.{Cell, Row, Table, rowsOf}
 use Rattle.plan.specs.Widths.{columnsExist}
 use Rattle.plan.specs.declared.Step.the-variants.{Join}
-use Rattle.memory.proofs.Rows.{Wide, rows-more}
+use Rattle.cells.specs.promises.Cells.{Wide}
+use Rattle.cells.proofs.Rows.{rows-more}
 use Rattle.plan.proofs.SenseShape.{made-shaped}
 
 -- ---- rows made of a list of rows, part by part

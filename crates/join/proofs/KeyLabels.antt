@@ -9,29 +9,28 @@ use native.Mathlib.Omega.{arith}
 use lib.Dec.{eqb}
 use lib.ListN.{length, take, drop}
 use borrow.Author.Tests.{le-leb}
-use Rattle.join.specs.Pairs.{labelsIn}
+use Rattle.join.specs.promises.Pairs.{labelsIn}
 use Rattle.join.specs.declared.Side.{Side}
 use Rattle.label.specs.Word.{fieldAt, bitAt}
-use Rattle.memory.specs.Cells.{gridOf}
-use Rattle.memory.specs.Search.{told, notClearAt}
-use Rattle.memory.specs.Steps.{Said, says}
-use Rattle.memory.specs.declared.Place.{Place}
-use Rattle.memory.specs.declared.Place.the-variants.{At, Nowhere, DoesNotFit}
+use Rattle.cells.specs.promises.Cells.{gridOf}
+use Rattle.cells.specs.promises.Search.{placeSays, notClearAt, Reply, says}
+use Rattle.cells.specs.declared.Place.{Place}
+use Rattle.cells.specs.declared.Place.the-variants.{At, Nowhere, DoesNotFit}
 use Rattle.plan.specs.Table.{clear}
 use Rattle.plan.specs.Verdict.{Verdict, fine, refused, orElse, refuseIf, firstNotClear, notClear}
-use Rattle.memory.proofs.CellLaws.{le-within}
-use Rattle.memory.proofs.Masks.{one-column}
+use Rattle.cells.proofs.CellLaws.{le-within}
+use Rattle.cells.proofs.Masks.{one-column}
 use Rattle.memory.proofs.Finish.{says-is, never-unfit}
-use Rattle.memory.proofs.Place.{the-type}
-use Rattle.memory.proofs.Wanted.{search-same}
+use Rattle.cells.proofs.Place.{the-type}
+use Rattle.cells.proofs.Wanted.{search-same}
 use denote.Enum.Declared.{tagOf}
 use types.Run.{OneOf, miss}
 
 -- ---- a search in the key column of a table
 
 pub key-search : (labels : List ℕ) (side : Side) (first : ℕ) (p : Place) → side .rows ≤ 256 → side .columns ≤ 8 → side .key < side .columns → side .at + side .rows * side .columns ≤ length labels
-    → told 31 first p ≡ notClearAt 31 first labels (side .at) (side .rows) (side .columns) (1 * 2 ^ side .key % 2 ^ 32)
-    → told 31 first p ≡ says (notClear (λ c. eqb c (side .key)) 31 first (labelsIn labels side))
+    → placeSays 31 first p ≡ notClearAt 31 first labels (side .at) (side .rows) (side .columns) (1 * 2 ^ side .key % 2 ^ 32)
+    → placeSays 31 first p ≡ says (notClear (λ c. eqb c (side .key)) 31 first (labelsIn labels side))
 key-search labels side first p r c k h e =
     e ∙ rw (le-leb (side .rows) 256 r, le-leb (side .columns) 8 c, le-within (side .at) (side .rows * side .columns) (length labels) h)
     (ap says (search-same (bitAt (1 * 2 ^ side .key % 2 ^ 32)) (λ c. eqb c (side .key)) (λ i l. one-column (side .key) i (omega arith) l) 31 (side .columns) (side .rows) first (drop (side .at) labels) c))
@@ -61,12 +60,12 @@ module _ (wanted : ℕ → Bool) (number : ℕ) where
 
 -- ---- the places that are answered
 
-pub first-stands : (p : Place) (v w : Verdict) → OneOf (0 ∷ 2 ∷ []) (tagOf the-type p) → told 31 0 p ≡ says v → told 31 0 p ≡ says (orElse v w)
+pub first-stands : (p : Place) (v w : Verdict) → OneOf (0 ∷ 2 ∷ []) (tagOf the-type p) → placeSays 31 0 p ≡ says v → placeSays 31 0 p ≡ says (orElse v w)
 first-stands (At row column) v w k e = rw (← says-is e)
 first-stands Nowhere v w k e = absurd (miss (0 ∷ 2 ∷ []) 1 tt k)
 first-stands DoesNotFit v w k e = absurd (never-unfit e)
 
-pub second-stands : (p : Place) (first : ℕ) {s : Said} → OneOf (1 ∷ 2 ∷ []) (tagOf the-type p) → told 31 first p ≡ s → told 31 0 p ≡ s
+pub second-stands : (p : Place) (first : ℕ) {s : Reply} → OneOf (1 ∷ 2 ∷ []) (tagOf the-type p) → placeSays 31 first p ≡ s → placeSays 31 0 p ≡ s
 second-stands (At row column) first k e = absurd (miss (1 ∷ 2 ∷ []) 0 tt k)
 second-stands Nowhere first k e = e
 second-stands DoesNotFit first k e = e

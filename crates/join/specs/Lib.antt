@@ -1,3 +1,2 @@
--- What the parts of a join promise each other.
-pub mod Ends
-pub mod Pairs
+-- The step JOIN over work memory. Nothing here is to be believed: `promises` has what its functions promise one another.
+pub mod promises

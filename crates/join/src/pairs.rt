@@ -1,19 +1,22 @@
-// The rows of a join, made one after the other from place 6,144 on.
+// The rows of a join, made one after the other in the last slot.
 ghost use mathlib.Core.Path.{_≡_};
 ghost use mathlib.Core.Bool.{false};
 ghost use Prim.Native.Nat.{ℕ, _+_, _-_, _*_, _≤_, _<_};
 ghost use lib.IntN.{pos};
 ghost use lib.ListN.{length, getD};
 ghost use Rattle.value.specs.Equality.{eqZ};
-ghost use Rattle.memory.specs.Cells.{cellsOf, Kept};
-ghost use Rattle.join.specs.Pairs as spec;
+ghost use Rattle.cells.specs.promises.Work.{work, cellsIn, room};
+ghost use Rattle.cells.specs.promises.Written.{Put};
+ghost use Rattle.memory.specs.promises.Stack.{lastSlot};
+ghost use Rattle.join.specs.promises.Pairs as spec;
 use crate::Side;
 use comparison::equal;
+use memory::LAST_SLOT;
 
 // Makes the rows of all left rows, and answers how many there are: 257 if more than 256.
 pub fn join_rows(values: &mut [i64], labels: &mut [u32], left: Side, right: Side) -> usize
     requires { ⌜ spec.Sides (length (now values)) (length (now labels)) left right ⌝ }
-    ensures { λ r. ⌜ spec.Grown 0 left right (spec.allRows (cellsOf (now (values .entry)) (now (labels .entry))) left right) (now (values .entry)) (now (labels .entry)) r (now (values .exit)) (now (labels .exit)) ⌝ }
+    ensures { λ r. ⌜ spec.Grown 0 left right (spec.allRows (cellsIn (work (now (values .entry)) (now (labels .entry)))) left right) (work (now (values .entry)) (now (labels .entry))) r (work (now (values .exit)) (now (labels .exit))) ⌝ }
 {
     let rows = left.rows;
     let mut made = 0;
@@ -39,7 +42,7 @@ fn join_row(
 ) -> usize
     requires { ⌜ spec.Sides (length (now values)) (length (now labels)) left right ⌝ }
     requires { ⌜ (row < left .rows) × (made ≤ 256) ⌝ }
-    ensures { λ r. ⌜ spec.Grown made left right (spec.leftRows (cellsOf (now (values .entry)) (now (labels .entry))) left right (left .at + row * left .columns)) (now (values .entry)) (now (labels .entry)) r (now (values .exit)) (now (labels .exit)) ⌝ }
+    ensures { λ r. ⌜ spec.Grown made left right (spec.leftRows (cellsIn (work (now (values .entry)) (now (labels .entry)))) left right (left .at + row * left .columns)) (work (now (values .entry)) (now (labels .entry))) r (work (now (values .exit)) (now (labels .exit))) ⌝ }
 {
     let at = left.at + row * left.columns;
     let rows = right.rows;
@@ -94,8 +97,8 @@ fn join_pair(
     made: usize,
 ) -> usize
     requires { ⌜ spec.Sides (length (now values)) (length (now labels)) left right ⌝ }
-    requires { ⌜ (at + left .columns ≤ 6144) × (other + right .columns ≤ 6144) × (made ≤ 256) ⌝ }
-    ensures { λ r. ⌜ spec.Grown made left right (spec.pairRows (cellsOf (now (values .entry)) (now (labels .entry))) left right at other) (now (values .entry)) (now (labels .entry)) r (now (values .exit)) (now (labels .exit)) ⌝ }
+    requires { ⌜ (at + left .columns ≤ lastSlot) × (other + right .columns ≤ lastSlot) × (made ≤ 256) ⌝ }
+    ensures { λ r. ⌜ spec.Grown made left right (spec.pairRows (cellsIn (work (now (values .entry)) (now (labels .entry)))) left right at other) (work (now (values .entry)) (now (labels .entry))) r (work (now (values .exit)) (now (labels .exit))) ⌝ }
 {
     if !equal(values[at + left.key], values[other + right.key]) {
         return made;
@@ -104,7 +107,15 @@ fn join_pair(
         return 257;
     }
     let width = left.columns + (right.columns - 1);
-    write_row(values, labels, left, right, at, other, 6144 + made * width);
+    write_row(
+        values,
+        labels,
+        left,
+        right,
+        at,
+        other,
+        LAST_SLOT + made * width,
+    );
     made + 1
 }
 
@@ -119,14 +130,13 @@ fn write_row(
     to: usize,
 )
     requires { ⌜ spec.Sides (length (now values)) (length (now labels)) left right ⌝ }
-    requires { ⌜ (at + left .columns ≤ to) × (other + right .columns ≤ to) × (to + (left .columns + (right .columns - 1)) ≤ 8192) ⌝ }
-    ensures { λ r. ⌜ cellsOf (now (values .exit)) (now (labels .exit)) ≡ spec.written to (spec.rowMade (cellsOf (now (values .entry)) (now (labels .entry))) left right at other .cells) (cellsOf (now (values .entry)) (now (labels .entry))) ⌝ }
-    ensures { λ r. ⌜ Kept (now (values .entry)) (now (labels .entry)) (now (values .exit)) (now (labels .exit)) ⌝ }
+    requires { ⌜ (at + left .columns ≤ to) × (other + right .columns ≤ to) × (to + (left .columns + (right .columns - 1)) ≤ room) ⌝ }
+    ensures { λ r. ⌜ Put to (spec.rowMade (cellsIn (work (now (values .entry)) (now (labels .entry)))) left right at other .cells) (work (now (values .entry)) (now (labels .entry))) (work (now (values .exit)) (now (labels .exit))) ⌝ }
 {
     let key = right.key;
-    memory::move_cells(values, labels, at, to, left.columns);
-    memory::move_cells(values, labels, other, to + left.columns, key);
-    memory::move_cells(
+    cells::move_cells(values, labels, at, to, left.columns);
+    cells::move_cells(values, labels, other, to + left.columns, key);
+    cells::move_cells(
         values,
         labels,
         other + key + 1,

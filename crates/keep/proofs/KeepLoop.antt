@@ -11,16 +11,20 @@ use lib.ListN.{length, getD, take, drop, set, length-append, length-set, length-
 use lib.Seq.{getD-take, getD-drop}
 use Rattle.label.specs.Stages.{one}
 use Rattle.label.specs.Word.{bitAt}
-use Rattle.memory.specs.Cells.{cellsOf, flat, Kept}
+use Rattle.cells.specs.promises.Cells.{flat, Wide}
+use Rattle.cells.specs.promises.Work.{Work, work, cellsIn, room, Kept}
+use Rattle.cells.specs.promises.Written.{Written, CellsWritten}
+use Rattle.memory.specs.declared.LiveTable.{LiveTable}
+use Rattle.memory.specs.promises.Stack.{rowsIn, Inside}
 use Rattle.plan.specs.Keep.{keptCount, keptCells, keptRow}
 use Rattle.plan.specs.Sense.{Each}
 use Rattle.plan.specs.Table.{Cell, Row, blank, cellAt, rowsOf}
-use Rattle.keep.specs.Keeping.{RowKept}
-use Rattle.memory.proofs.CellLaws.{cells-length, cells-get, cells-set, kept-none, kept-then, kept-set}
-use Rattle.memory.proofs.RowReads.{row-cells, flat-append, flat-length}
-use Rattle.memory.proofs.Rows.{Wide, rows-more, rows-length}
-use Rattle.memory.proofs.TopTable.{Inside}
-use Rattle.memory.proofs.Written.{Written, nothing-written, one-written, read-past, past-any, then-written}
+use Rattle.keep.specs.promises.Keeping.{RowKept}
+use Rattle.cells.proofs.CellLaws.{cells-length, cells-get, cells-set, kept-none, kept-then, kept-set}
+use Rattle.cells.proofs.RowReads.{row-cells, flat-append, flat-length}
+use Rattle.cells.proofs.Rows.{rows-more, rows-length}
+use Rattle.memory.proofs.LiveTables.{cells-room}
+use Rattle.cells.proofs.Written.{nothing-written, one-written, read-past, past-any, then-written}
 
 -- ---- how many cells are kept
 
@@ -49,63 +53,64 @@ kept-wide mask columns (row ∷ rows) = (kept-length mask columns row, kept-wide
 
 -- ---- one row
 
-pub record KeepingRow (mask from to columns : ℕ) (v₀ : List ℤ) (l₀ : List ℕ) (v : List ℤ) (l : List ℕ) (next column : ℕ) : Type 0 where
+pub record KeepingRow (mask from to columns : ℕ) (w₀ w : Work) (next column : ℕ) : Type 0 where
   pub column-le : column ≤ columns
   pub next-is : next ≡ to + keptCount mask column
   pub next-le : next ≤ from + column
-  pub as-many-values : length v ≡ length v₀
-  pub as-many-labels : length l ≡ length l₀
-  pub written : Written (cellsOf v₀ l₀) to (keptCells mask column (record { cells = take columns (drop from (cellsOf v₀ l₀)) })) (cellsOf v l)
-  pub same : Kept v₀ l₀ v l
+  pub as-many-values : length (w .values) ≡ length (w₀ .values)
+  pub as-many-labels : length (w .labels) ≡ length (w₀ .labels)
+  pub written : Written (cellsIn w₀) to (keptCells mask column (record { cells = take columns (drop from (cellsIn w₀)) })) (cellsIn w)
+  pub same : Kept w₀ w
 
-module _ (mask from to columns : ℕ) (v₀ : List ℤ) (l₀ : List ℕ) (lower : to ≤ from) (in-memory : from + columns ≤ 8192) (in-values : from + columns ≤ length v₀) (in-labels : from + columns ≤ length l₀) where
-  abbrev m₀ : List Cell
-  m₀ = cellsOf v₀ l₀
+-- the row that begins at a place, and the cell at a place of both slices
+abbrev rowFrom : Work → ℕ → ℕ → Row
+rowFrom w columns from = record { cells = take columns (drop from (cellsIn w)) }
 
-  abbrev row : Row
-  row = record { cells = take columns (drop from m₀) }
+abbrev pub readFrom : Work → ℕ → Cell
+readFrom w i = record { value = getD (w .values) i (pos 0); label = getD (w .labels) i 0 }
 
-  pub row-begins : KeepingRow mask from to columns v₀ l₀ v₀ l₀ to 0
+module _ {mask from to columns : ℕ} {w₀ : Work} (lower : to ≤ from) (in-memory : from + columns ≤ room) (in-values : from + columns ≤ length (w₀ .values)) (in-labels : from + columns ≤ length (w₀ .labels)) where
+  pub row-begins : KeepingRow mask from to columns w₀ w₀ to 0
   row-begins = record {
     column-le = omega arith;
     next-is = omega arith;
     next-le = omega arith;
     as-many-values = refl;
     as-many-labels = refl;
-    written = nothing-written m₀ to (omega (arith, cells-length v₀ l₀ (from + columns) in-values in-labels));
-    same = kept-none v₀ l₀;
+    written = nothing-written (cellsIn w₀) to (omega (arith, cells-length w₀ (from + columns) in-values in-labels));
+    same = kept-none w₀;
   }
 
-  module _ {v : List ℤ} {l : List ℕ} {next column : ℕ} (i : KeepingRow mask from to columns v₀ l₀ v l next column) (h : column < columns) where
-    cell-read : record { value = getD v (from + column) (pos 0); label = getD l (from + column) 0 } ≡ cellAt column row
+  module _ {w : Work} {next column : ℕ} (i : KeepingRow mask from to columns w₀ w next column) (h : column < columns) where
+    cell-read : readFrom w (from + column) ≡ cellAt column (rowFrom w₀ columns from)
     cell-read =
-        sym (cells-get v l (from + column) (pos 0) (omega (arith, i .as-many-values)) (omega (arith, i .as-many-labels)))
-        ∙ read-past (i .written) (from + column) blank (omega (arith, kept-length mask column row, i .next-is, i .next-le))
-        ∙ sym (getD-drop from m₀ column blank) ∙ sym (getD-take columns (drop from m₀) column blank h)
+        sym (cells-get w (from + column) (pos 0) (omega (arith, i .as-many-values)) (omega (arith, i .as-many-labels)))
+        ∙ read-past (i .written) (from + column) blank (omega (arith, kept-length mask column (rowFrom w₀ columns from), i .next-is, i .next-le))
+        ∙ sym (getD-drop from (cellsIn w₀) column blank) ∙ sym (getD-take columns (drop from (cellsIn w₀)) column blank h)
 
     pub cell-kept : bitAt mask column ≡ true
-        → KeepingRow mask from to columns v₀ l₀ (set v next (getD v (from + column) (pos 0))) (set l next (getD l (from + column) 0)) (next + 1) (column + 1)
+        → KeepingRow mask from to columns w₀ (work (set (w .values) next (readFrom w (from + column) .value)) (set (w .labels) next (readFrom w (from + column) .label))) (next + 1) (column + 1)
     cell-kept b =
-        let more : keptCells mask (column + 1) row ≡ keptCells mask column row ++ (cellAt column row ∷ [])
-        = ap (λ (n : ℕ). keptCells mask n row) (add-one column) ∙ ap (λ (b : Bool). keptCells mask column row ++ cond b (cellAt column row ∷ []) []) b in
-        let place : to + length (keptCells mask column row) ≡ next = ap (λ (n : ℕ). to + n) (kept-length mask column row) ∙ sym (i .next-is) in
-        let cells : cellsOf (set v next (getD v (from + column) (pos 0))) (set l next (getD l (from + column) 0)) ≡ set (cellsOf v l) next (cellAt column row)
-        = cells-set v l next (getD v (from + column) (pos 0)) (getD l (from + column) 0) ∙ ap (set (cellsOf v l) next) cell-read in
+        let more : keptCells mask (column + 1) (rowFrom w₀ columns from) ≡ keptCells mask column (rowFrom w₀ columns from) ++ (cellAt column (rowFrom w₀ columns from) ∷ [])
+        = ap (λ (n : ℕ). keptCells mask n (rowFrom w₀ columns from)) (add-one column) ∙ ap (λ (b : Bool). keptCells mask column (rowFrom w₀ columns from) ++ cond b (cellAt column (rowFrom w₀ columns from) ∷ []) []) b in
+        let place : to + length (keptCells mask column (rowFrom w₀ columns from)) ≡ next = ap (λ (n : ℕ). to + n) (kept-length mask column (rowFrom w₀ columns from)) ∙ sym (i .next-is) in
+        let cells : cellsIn (work (set (w .values) next (readFrom w (from + column) .value)) (set (w .labels) next (readFrom w (from + column) .label))) ≡ set (cellsIn w) next (cellAt column (rowFrom w₀ columns from))
+        = cells-set w next _ _ ∙ ap (set (cellsIn w) next) cell-read in
         record {
           column-le = omega arith;
           next-is = omega (arith, count-next mask column true b, i .next-is);
           next-le = omega (arith, i .next-le);
-          as-many-values = length-set v next _ ∙ i .as-many-values;
-          as-many-labels = length-set l next _ ∙ i .as-many-labels;
+          as-many-values = length-set (w .values) next _ ∙ i .as-many-values;
+          as-many-labels = length-set (w .labels) next _ ∙ i .as-many-labels;
           written = rw (more, cells)
-              (rw place at (one-written (i .written) (cellAt column row) (omega (arith, place, i .next-le, cells-length v₀ l₀ (from + columns) in-values in-labels))));
+              (rw place at (one-written (i .written) (cellAt column (rowFrom w₀ columns from)) (omega (arith, place, i .next-le, cells-length w₀ (from + columns) in-values in-labels))));
           same = kept-set next _ _ (omega (arith, i .next-le)) (i .same);
         }
 
-    pub cell-left : bitAt mask column ≡ false → KeepingRow mask from to columns v₀ l₀ v l next (column + 1)
+    pub cell-left : bitAt mask column ≡ false → KeepingRow mask from to columns w₀ w next (column + 1)
     cell-left b =
-        let less : keptCells mask (column + 1) row ≡ keptCells mask column row
-        = ap (λ (n : ℕ). keptCells mask n row) (add-one column) ∙ ap (λ (b : Bool). keptCells mask column row ++ cond b (cellAt column row ∷ []) []) b ∙ append-nil _ in
+        let less : keptCells mask (column + 1) (rowFrom w₀ columns from) ≡ keptCells mask column (rowFrom w₀ columns from)
+        = ap (λ (n : ℕ). keptCells mask n (rowFrom w₀ columns from)) (add-one column) ∙ ap (λ (b : Bool). keptCells mask column (rowFrom w₀ columns from) ++ cond b (cellAt column (rowFrom w₀ columns from) ∷ []) []) b ∙ append-nil _ in
         record {
           column-le = omega arith;
           next-is = omega (arith, count-next mask column false b, i .next-is);
@@ -116,65 +121,66 @@ module _ (mask from to columns : ℕ) (v₀ : List ℤ) (l₀ : List ℕ) (lower
           same = i .same;
         }
 
-pub row-ends : (mask from to columns : ℕ) (v₀ : List ℤ) (l₀ : List ℕ) {v : List ℤ} {l : List ℕ} {next column : ℕ} → column ≡ columns → KeepingRow mask from to columns v₀ l₀ v l next column
-    → RowKept mask from to columns v₀ l₀ next v l
-row-ends mask from to columns v₀ l₀ {v} {l} e i = record {
+pub row-ends : {mask from to columns : ℕ} {w₀ w : Work} {next column : ℕ} → column ≡ columns → KeepingRow mask from to columns w₀ w next column
+    → RowKept mask from to columns w₀ next w
+row-ends {mask} {from} {to} {columns} {w₀} {w} e i = record {
   ended = i .next-is ∙ ap (λ (n : ℕ). to + keptCount mask n) e;
-  written = subst (λ (n : ℕ). Written (cellsOf v₀ l₀) to (keptCells mask n (record { cells = take columns (drop from (cellsOf v₀ l₀)) })) (cellsOf v l)) e (i .written);
+  written = subst (λ (n : ℕ). Written (cellsIn w₀) to (keptCells mask n (record { cells = take columns (drop from (cellsIn w₀)) })) (cellsIn w)) e (i .written);
   kept = i .same;
 }
 
 -- ---- the rows
 
-pub record KeepingRows (mask at rows columns : ℕ) (v₀ : List ℤ) (l₀ : List ℕ) (v : List ℤ) (l : List ℕ) (from to row : ℕ) : Type 0 where
-  pub row-le : row ≤ rows
-  pub from-is : from ≡ at + row * columns
-  pub to-is : to ≡ at + row * keptCount mask columns
+pub record KeepingRows (mask : ℕ) (top : LiveTable) (w₀ w : Work) (from to row : ℕ) : Type 0 where
+  pub row-le : row ≤ top .rows
+  pub from-is : from ≡ top .at + row * top .columns
+  pub to-is : to ≡ top .at + row * keptCount mask (top .columns)
   pub to-le : to ≤ from
-  pub written : Written (cellsOf v₀ l₀) at (flat (map (keptRow mask columns) (rowsOf columns row (drop at (cellsOf v₀ l₀))))) (cellsOf v l)
-  pub same : Kept v₀ l₀ v l
+  pub written : CellsWritten w₀ (top .at) (flat (map (keptRow mask (top .columns)) (rowsOf (top .columns) row (drop (top .at) (cellsIn w₀))))) w
+  pub same : Kept w₀ w
 
-module _ (mask at rows columns : ℕ) (v₀ : List ℤ) (l₀ : List ℕ) (inside : Inside at rows columns (length v₀) (length l₀)) where
-  abbrev rowsTo : ℕ → List Row
-  rowsTo n = rowsOf columns n (drop at (cellsOf v₀ l₀))
+-- the first rows of a table
+abbrev firstRows : LiveTable → Work → ℕ → List Row
+firstRows top w n = rowsOf (top .columns) n (drop (top .at) (cellsIn w))
 
-  pub rows-begin : KeepingRows mask at rows columns v₀ l₀ v₀ l₀ at at 0
+module _ {mask : ℕ} {top : LiveTable} {w₀ : Work} (inside : Inside top (length (w₀ .values)) (length (w₀ .labels))) where
+  pub rows-begin : KeepingRows mask top w₀ w₀ (top .at) (top .at) 0
   rows-begin = record {
     row-le = omega arith;
     from-is = omega arith;
     to-is = omega arith;
     to-le = omega arith;
-    written = nothing-written (cellsOf v₀ l₀) at (omega (arith, cells-length v₀ l₀ (at + rows * columns) (inside .in-values) (inside .in-labels)));
-    same = kept-none v₀ l₀;
+    written = nothing-written (cellsIn w₀) (top .at) (omega (arith, inside .below, cells-room w₀ inside));
+    same = kept-none w₀;
   }
 
-  module _ {v : List ℤ} {l : List ℕ} {from to row : ℕ} (i : KeepingRows mask at rows columns v₀ l₀ v l from to row) (h : row < rows) where
+  module _ {w : Work} {from to row : ℕ} (i : KeepingRows mask top w₀ w from to row) (h : row < top .rows) where
     -- the row that is read lies within memory
-    pub row-reach : from + columns ≤ at + rows * columns
-    row-reach = omega (arith, i .from-is, mul-le-mul-right columns h)
+    pub row-reach : from + (top .columns) ≤ top .at + top .rows * (top .columns)
+    row-reach = omega (arith, i .from-is, mul-le-mul-right (top .columns) h)
 
-    pub row-fits : (to ≤ from) × (columns ≤ 8) × (from + columns ≤ 8192) × (from + columns ≤ length v) × (from + columns ≤ length l)
-    row-fits = (i .to-le, inside .few-columns, omega (arith, row-reach, inside .in-memory), omega (arith, row-reach, inside .in-values, i .same .as-many-values), omega (arith, row-reach, inside .in-labels, i .same .as-many-labels))
+    pub row-fits : (to ≤ from) × ((top .columns) ≤ 8) × (from + (top .columns) ≤ room) × (from + (top .columns) ≤ length (w .values)) × (from + (top .columns) ≤ length (w .labels))
+    row-fits = (i .to-le, inside .few-columns, omega (arith, row-reach, inside .below), omega (arith, row-reach, inside, i .same .as-many-values), omega (arith, row-reach, inside, i .same .as-many-labels))
 
-    pub row-next : {end : ℕ} {v′ : List ℤ} {l′ : List ℕ} → RowKept mask from to columns v l end v′ l′
-        → KeepingRows mask at rows columns v₀ l₀ v′ l′ (from + columns) end (row + 1)
-    row-next {end} {v′} {l′} k =
-        let done = flat (map (keptRow mask columns) (rowsTo row)) in
-        let read : Row = record { cells = take columns (drop from (cellsOf v l)) } in
-        let long : at + length done ≡ to
-        = ap (λ (n : ℕ). at + n) (flat-length (keptCount mask columns) (map (keptRow mask columns) (rowsTo row)) (kept-wide mask columns (rowsTo row)) ∙ ap (λ (n : ℕ). n * keptCount mask columns) (length-map (rowsTo row) (keptRow mask columns) ∙ rows-length columns row (drop at (cellsOf v₀ l₀))))
+    pub row-next : {end : ℕ} {w′ : Work} → RowKept mask from to (top .columns) w end w′
+        → KeepingRows mask top w₀ w′ (from + (top .columns)) end (row + 1)
+    row-next {end} {w′} k =
+        let done = flat (map (keptRow mask (top .columns)) (firstRows top w₀ row)) in
+        let read : Row = record { cells = take (top .columns) (drop from (cellsIn w)) } in
+        let long : top .at + length done ≡ to
+        = ap (λ (n : ℕ). top .at + n) (flat-length (keptCount mask (top .columns)) (map (keptRow mask (top .columns)) (firstRows top w₀ row)) (kept-wide mask (top .columns) (firstRows top w₀ row)) ∙ ap (λ (n : ℕ). n * keptCount mask (top .columns)) (length-map (firstRows top w₀ row) (keptRow mask (top .columns)) ∙ rows-length (top .columns) row (drop (top .at) (cellsIn w₀))))
         ∙ sym (i .to-is) in
-        let cells : read .cells ≡ take columns (drop (row * columns) (drop at (cellsOf v₀ l₀)))
-        = ap (take columns) (past-any (i .written) from (omega (arith, long, i .to-le)) ∙ ap (λ (n : ℕ). drop n (cellsOf v₀ l₀)) (i .from-is)) ∙ sym (row-cells (cellsOf v₀ l₀) at columns row) in
-        let more : flat (map (keptRow mask columns) (rowsTo (row + 1))) ≡ done ++ keptCells mask columns read
-        = ap (λ (n : ℕ). flat (map (keptRow mask columns) (rowsTo n))) (add-one row) ∙ ap (λ (r : List Row). flat (map (keptRow mask columns) r)) (rows-more columns row (drop at (cellsOf v₀ l₀)))
-        ∙ ap flat (map-append (keptRow mask columns) (rowsTo row) _) ∙ flat-append (map (keptRow mask columns) (rowsTo row)) _
-        ∙ ap (λ (t : List Cell). done ++ t) (append-nil _ ∙ ap (λ (c : List Cell). keptCells mask columns (record { cells = c })) (sym cells)) in
+        let cells : read .cells ≡ take (top .columns) (drop (row * (top .columns)) (drop (top .at) (cellsIn w₀)))
+        = ap (take (top .columns)) (past-any (i .written) from (omega (arith, long, i .to-le)) ∙ ap (λ (n : ℕ). drop n (cellsIn w₀)) (i .from-is)) ∙ sym (row-cells (cellsIn w₀) (top .at) (top .columns) row) in
+        let more : flat (map (keptRow mask (top .columns)) (firstRows top w₀ (row + 1))) ≡ done ++ keptCells mask (top .columns) read
+        = ap (λ (n : ℕ). flat (map (keptRow mask (top .columns)) (firstRows top w₀ n))) (add-one row) ∙ ap (λ (r : List Row). flat (map (keptRow mask (top .columns)) r)) (rows-more (top .columns) row (drop (top .at) (cellsIn w₀)))
+        ∙ ap flat (map-append (keptRow mask (top .columns)) (firstRows top w₀ row) _) ∙ flat-append (map (keptRow mask (top .columns)) (firstRows top w₀ row)) _
+        ∙ ap (λ (t : List Cell). done ++ t) (append-nil _ ∙ ap (λ (c : List Cell). keptCells mask (top .columns) (record { cells = c })) (sym cells)) in
         record {
           row-le = omega arith;
           from-is = omega (arith, i .from-is);
           to-is = omega (arith, k .ended, i .to-is);
-          to-le = omega (arith, k .ended, i .to-le, count-below mask columns);
+          to-le = omega (arith, k .ended, i .to-le, count-below mask (top .columns));
           written = rw more (then-written (i .written) (sym long) (k .written));
           same = kept-then (i .same) (k .kept);
         }

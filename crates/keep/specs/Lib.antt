@@ -1,2 +1,2 @@
--- What the private functions of KEEP promise of the cells.
-pub mod Keeping
+-- The step KEEP over work memory. Nothing here is to be believed: `promises` has what its functions promise one another.
+pub mod promises

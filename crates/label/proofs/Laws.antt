@@ -28,7 +28,7 @@ same-packed : {s s′ t t′ x x′ g g′ d d′ m m′ : ℕ} → s ≡ s′ �
 same-packed e₁ e₂ e₃ e₄ e₅ e₆ = cc
 
 module _ (a b : ℕ) where
-  fields : Fields (composed a b) (bitOr (stagesOf a) (stagesOf b)) (transformsBoth a b) (noiseBoth a b) (aggregatesBoth a b) (digitsBoth a b) (minimumBoth a b)
+  pub fields : Fields (composed a b) (bitOr (stagesOf a) (stagesOf b)) (transformsBoth a b) (noiseBoth a b) (aggregatesBoth a b) (digitsBoth a b) (minimumBoth a b)
   unfolding composed
   fields = packed-fields _ _ _ _ _ _ (stages-lt a b) (transforms-lt a b) (noise-lt a b) (aggregates-lt a b) (digits-lt a b) (minimum-lt a b)
 

@@ -1,101 +1,154 @@
 -- The three ways in which a step ends: its arguments do not fit, it is refused, or it has made its table. Assumes nothing.
-use Prim.Native.Nat.{ℕ, _+_, _≤_, _<_}
+use Prim.Native.Nat.{ℕ, _+_, _-_, _≤_, _<_}
 use mathlib.Core.Path.{_≡_, refl, sym, ap, ap₂, _∙_}
-use mathlib.Core.Bool.{Bool, true, false, true≢false}
+use mathlib.Core.Bool.{Bool, true, false, cond, true≢false}
 use mathlib.Core.List.{List, _∷_}
 use native.Mathlib.Omega.{arith}
-use lib.IntN.{ℤ}
-use lib.ListN.{length, drop}
-use Rattle.memory.specs.Cells.{cellsOf, flat, Kept}
-use Rattle.memory.specs.Stack.{ready, slot, stackOf, withTable}
-use Rattle.memory.specs.Steps.{Said, says, unfit, said, verdict, DoneWhere}
-use Rattle.memory.specs.declared.Answer.{Answer}
-use Rattle.memory.specs.declared.Answer.the-variants.{Made, DoesNotFit}
+use lib.ListN.{length, take, drop}
+use Rattle.cells.specs.promises.Cells.{flat, Wide}
+use Rattle.cells.specs.promises.Search.{Reply, says, unfit}
+use Rattle.cells.specs.promises.Work.{Work, cellsIn, Kept}
+use Rattle.cells.specs.promises.Written.{CellsWritten}
+use Rattle.kinds.specs.declared.Width.{Width}
+use Rattle.kinds.specs.declared.Width.the-variants.{Columns, Misplaced}
+use Rattle.memory.specs.declared.Refusal.{Refusal}
+use Rattle.memory.specs.declared.Refusal.the-variants.{NotClear, Forbidden, OperandNotClear, TooMany}
 use Rattle.memory.specs.declared.Stack.{Stack}
+use Rattle.memory.specs.declared.StepAnswer.the-variants.{Made, Refused, DoesNotFit}
+use Rattle.memory.specs.promises.Stack.{ready, Ready, lastSlot, slot, stackIn, withTable, RowsAt}
+use Rattle.memory.specs.promises.Steps.{refusalSays, verdict, leavesRows, stackAfter, DoneWhere}
 use Rattle.plan.specs.Sense.{Each}
 use Rattle.plan.specs.Steps.{takes, make}
 use Rattle.plan.specs.Table.{Row, Table, rowsOf}
 use Rattle.plan.specs.Verdict.{Verdict, fine, refused, orElse}
 use Rattle.plan.specs.declared.Step.{Step}
-use Rattle.memory.proofs.CellLaws.{cells-length, kept-none}
-use Rattle.memory.proofs.Rows.{Wide, rows-flat}
-use Rattle.memory.proofs.Stacks.{Ready, to-ready, with-ready, stack-with}
-use Rattle.memory.proofs.Written.{Written, as-long, below-written, from-written}
+use Rattle.cells.proofs.CellLaws.{cells-length, kept-none}
+use Rattle.cells.proofs.Rows.{rows-flat}
+use Rattle.cells.proofs.Written.{as-long, below-written, from-written}
+use Rattle.memory.proofs.Stacks.{to-ready, with-ready, stack-with}
 
 pub or-nothing : (v : Verdict) → orElse v fine ≡ v
 or-nothing fine = refl
 or-nothing (refused number row column) = refl
 
-unsaid : Said → Verdict
-unsaid (says v) = v
-unsaid unfit = fine
-
-fitting : Said → Bool
-fitting (says v) = true
-fitting unfit = false
-
 pub says-is : {v w : Verdict} → says v ≡ says w → v ≡ w
-unfolding unsaid
-says-is e = ap unsaid e
+says-is e = cc
 
 pub never-unfit : {v : Verdict} → unfit ≡ says v → ⊥
-unfolding fitting
-never-unfit e = true≢false (sym (ap fitting e))
+never-unfit e = let z : _≡_ {A = ℕ} 0 1 = cc in omega arith
 
 clash : {b : Bool} {A : Type 0} → b ≡ true → b ≡ false → A
 clash t f = absurd (true≢false (sym t ∙ f))
 
-module _ {fit : Bool} (step : Step) (tables : List Table) (values : List ℤ) (labels : List ℕ) (stack : Stack) where
-  pub unfit-done : fit ≡ false → DoneWhere fit step tables values labels stack (record { answer = DoesNotFit; stack = stack }) values labels
+-- what a test of the arguments found
+pub columns-fit : (b : Bool) (m : ℕ) {n : ℕ} → cond b (Columns m) Misplaced ≡ Columns n → (b ≡ true) × (n ≡ m)
+columns-fit true m e = (refl, cc)
+columns-fit false m e = (cc, cc)
+
+pub columns-misfit : (b : Bool) (m : ℕ) → cond b (Columns m) Misplaced ≡ Misplaced → b ≡ false
+columns-misfit true m e = cc
+columns-misfit false m e = refl
+
+never-fine : {number row column : ℕ} {A : Type 0} {v : Verdict} → v ≡ refused number row column → v ≡ fine → A
+never-fine r f = let z : _≡_ {A = ℕ} 0 1 = cc in absurd (omega arith)
+
+-- every refusal has its verdict
+pub record Verdicts (refusal : Refusal) : Type 0 where
+  pub number : ℕ
+  pub row : ℕ
+  pub column : ℕ
+  pub is : refusalSays refusal ≡ refused number row column
+
+pub verdicts : (refusal : Refusal) → Verdicts refusal
+verdicts (NotClear row column) = record { number = 31; row = row; column = column; is = refl }
+verdicts (Forbidden row column) = record { number = 32; row = row; column = column; is = refl }
+verdicts (OperandNotClear row column) = record { number = 33; row = row; column = column; is = refl }
+verdicts TooMany = record { number = 34; row = 256; column = 0; is = refl }
+
+-- the first refusal of two: nothing after a refusal counts
+pub refusal-stands : (refusal : Refusal) {u : Verdict} (v : Verdict) → says (refusalSays refusal) ≡ says u → says (refusalSays refusal) ≡ says (orElse u v)
+refusal-stands refusal v e =
+    let r = verdicts refusal in
+    e ∙ ap says (sym (ap (λ (w : Verdict). orElse w v) (sym (says-is e) ∙ r .is) ∙ sym (sym (says-is e) ∙ r .is)))
+
+pub goes-on : {u : Verdict} (v : Verdict) → says fine ≡ says u → orElse u v ≡ v
+goes-on v e = ap (λ (w : Verdict). orElse w v) (sym (says-is e))
+
+module _ {fit : Bool} (step : Step) (tables : List Table) (before : Work) (stack : Stack) where
+  pub unfit-done : fit ≡ false → DoneWhere fit step tables before stack (record { answer = DoesNotFit; stack = stack }) before
   unfit-done f = record {
-    misfit = λ _. (refl, refl, refl, refl);
-    refusal = λ t. clash t f;
-    result = λ t. clash t f;
-    still = λ t. clash t f;
-    kept = kept-none values labels;
+    misfit = λ _. (refl, refl, refl);
+    answer = λ t. clash t f;
+    unmade = λ t. clash t f;
+    made = λ t. clash t f;
+    kept = kept-none before;
   }
 
   module _ (t : fit ≡ true) where
-    -- a refusal that has changed nothing
-    pub refused-done : (answer : Answer) {number row column : ℕ} → said answer ≡ says (refused number row column)
-        → verdict step tables (stackOf (cellsOf values labels) stack) ≡ refused number row column
-        → DoneWhere fit step tables values labels stack (record { answer = answer; stack = stack }) values labels
-    refused-done answer a v = record {
+    -- a refusal that has changed nothing below the last slot, and nothing at all but for JOIN's 34
+    pub refused-done : (refusal : Refusal) (after : Work) → verdict step tables (stackIn before stack) ≡ refusalSays refusal → Kept before after
+        → take lastSlot (after .values) ≡ take lastSlot (before .values) → take lastSlot (after .labels) ≡ take lastSlot (before .labels)
+        → ((number row column : ℕ) → refusalSays refusal ≡ refused number row column → leavesRows step number ≡ false → after ≡ before)
+        → DoneWhere fit step tables before stack (record { answer = Refused refusal; stack = stack }) after
+    refused-done refusal after v k values labels same = record {
       misfit = λ f. clash t f;
-      refusal = λ _. a ∙ ap says (sym v);
-      result = λ _ e. absurd (never (sym v ∙ e));
-      still = λ _ e. absurd (never (sym v ∙ e));
-      kept = kept-none values labels;
-    }
-      where
-        never : {number row column : ℕ} → refused number row column ≡ fine → ⊥
-        never e = let z : _≡_ {A = ℕ} 0 1 = cc in omega arith
-
-    pub made-done : (after : Stack) (values′ : List ℤ) (labels′ : List ℕ) → verdict step tables (stackOf (cellsOf values labels) stack) ≡ fine
-        → stackOf (cellsOf values′ labels′) after ≡ make step tables (stackOf (cellsOf values labels) stack) ∷ drop (takes step) (stackOf (cellsOf values labels) stack)
-        → ready (length values′) (length labels′) after ≡ true → Kept values labels values′ labels′
-        → DoneWhere fit step tables values labels stack (record { answer = Made; stack = after }) values′ labels′
-    made-done after values′ labels′ v r s k = record {
-      misfit = λ f. clash t f;
-      refusal = λ _. ap says (sym v);
-      result = λ _ _. r;
-      still = λ _ _. s;
+      answer = λ _. ap says (sym v);
+      unmade = λ _ number row column w. record {
+        stack-same = refl;
+        all-same = same number row column (sym v ∙ w);
+        values-below = values;
+        labels-below = labels;
+      };
+      made = λ _ e. never-fine (v ∙ verdicts refusal .is) e;
       kept = k;
     }
 
+    pub unchanged-done : (refusal : Refusal) → verdict step tables (stackIn before stack) ≡ refusalSays refusal
+        → DoneWhere fit step tables before stack (record { answer = Refused refusal; stack = stack }) before
+    unchanged-done refusal v = refused-done refusal before v (kept-none before) refl refl (λ _ _ _ _ _. refl)
+
+    -- a table of so many rows and columns that stands in a slot, with nothing changed below it
+    pub made-done : (index columns count : ℕ) (rows : List Row) (after : Work) → Ready (length (before .values)) (length (before .labels)) stack
+        → verdict step tables (stackIn before stack) ≡ fine → index < 3 → stack .depth ≡ index + takes step
+        → make step tables (stackIn before stack) ≡ record { columns = columns; rows = rows }
+        → columns ≤ 8 → count ≤ 256 → count ≡ length rows
+        → rowsOf columns count (drop (slot index) (cellsIn after)) ≡ rows
+        → take (slot index) (cellsIn after) ≡ take (slot index) (cellsIn before) → length (cellsIn after) ≡ length (cellsIn before) → Kept before after
+        → DoneWhere fit step tables before stack (record { answer = Made; stack = withTable stack index columns count }) after
+    made-done index columns count rows after r allowed low depth made few-columns few-rows counted read lower long kept =
+        let there : stack .depth - takes step ≡ index = omega arith in
+        let stands = stack-with before after stack index (takes step) columns count rows r
+        (cells-length before _ (r .values-room) (r .labels-room)) long low depth lower read in
+        let again = with-ready (length (before .values)) (length (before .labels)) stack index columns count r low few-columns few-rows in
+        record {
+          misfit = λ f. clash t f;
+          answer = λ _. ap says (sym allowed);
+          unmade = λ _ number row column v. never-fine v allowed;
+          made = λ _ _. record {
+            stack-is = rw (made, there, ← counted);
+            tables-are = stands ∙ ap (λ (table : Table). table ∷ drop (takes step) (stackIn before stack)) (sym made);
+            still = ap₂ (λ (m n : ℕ). ready m n (withTable stack index columns count)) (kept .as-many-values) (kept .as-many-labels) ∙ to-ready _ _ _ again;
+          };
+          kept = kept;
+        }
+
+    -- the same of rows that stand at a slot's beginning
+    pub rows-done : (index columns count : ℕ) (rows : List Row) {at : ℕ} (after : Work) → Ready (length (before .values)) (length (before .labels)) stack
+        → verdict step tables (stackIn before stack) ≡ fine → index < 3 → stack .depth ≡ index + takes step
+        → make step tables (stackIn before stack) ≡ record { columns = columns; rows = rows }
+        → columns ≤ 8 → count ≤ 256 → count ≡ length rows → at ≡ slot index → RowsAt at columns count rows before after
+        → DoneWhere fit step tables before stack (record { answer = Made; stack = withTable stack index columns count }) after
+    rows-done index columns count rows after r allowed low depth made few-columns few-rows counted place stand =
+        made-done index columns count rows after r allowed low depth made few-columns few-rows counted
+        (rw place at (stand .read)) (rw place at (stand .lower)) (stand .as-long) (stand .kept)
+
     -- a table written into a slot, from its first cell on
-    pub written-done : (index columns count : ℕ) (rows : List Row) (after : Stack) (values′ : List ℤ) (labels′ : List ℕ) → Ready (length values) (length labels) stack
-        → verdict step tables (stackOf (cellsOf values labels) stack) ≡ fine → index < 3 → stack .depth ≡ index + takes step
-        → make step tables (stackOf (cellsOf values labels) stack) ≡ record { columns = columns; rows = rows }
+    pub written-done : (index columns count : ℕ) (rows : List Row) (after : Work) → Ready (length (before .values)) (length (before .labels)) stack
+        → verdict step tables (stackIn before stack) ≡ fine → index < 3 → stack .depth ≡ index + takes step
+        → make step tables (stackIn before stack) ≡ record { columns = columns; rows = rows }
         → columns ≤ 8 → count ≤ 256 → count ≡ length rows → Each (Wide columns) rows
-        → Written (cellsOf values labels) (slot index) (flat rows) (cellsOf values′ labels′) → Kept values labels values′ labels′ → after ≡ withTable stack index columns count
-        → DoneWhere fit step tables values labels stack (record { answer = Made; stack = after }) values′ labels′
-    written-done index columns count rows after values′ labels′ r fine-is below depth made few-columns few-rows counted wide written kept is =
-        let read : rowsOf columns count (drop (slot index) (cellsOf values′ labels′)) ≡ rows
-        = ap₂ (rowsOf columns) counted (from-written written) ∙ rows-flat columns rows _ wide in
-        let stands = stack-with (cellsOf values labels) (cellsOf values′ labels′) stack index (takes step) columns count rows r
-        (cells-length values labels 8192 (r .values-room) (r .labels-room)) (as-long written) below depth (below-written written) read in
-        let again = with-ready (length values) (length labels) stack index columns count r below few-columns few-rows in
-        made-done after values′ labels′ fine-is
-        (ap (stackOf (cellsOf values′ labels′)) is ∙ stands ∙ ap (λ (table : Table). table ∷ drop (takes step) (stackOf (cellsOf values labels) stack)) (sym made))
-        (ap₂ (λ (m n : ℕ). ready m n after) (kept .as-many-values) (kept .as-many-labels) ∙ ap (ready (length values) (length labels)) is ∙ to-ready _ _ _ again) kept
+        → CellsWritten before (slot index) (flat rows) after → Kept before after
+        → DoneWhere fit step tables before stack (record { answer = Made; stack = withTable stack index columns count }) after
+    written-done index columns count rows after r allowed low depth made few-columns few-rows counted wide written kept =
+        made-done index columns count rows after r allowed low depth made few-columns few-rows counted
+        (ap₂ (rowsOf columns) counted (from-written written) ∙ rows-flat columns rows _ wide) (below-written written) (as-long written) kept

@@ -1,12 +1,7 @@
--- What the proofs of the steps share, for the step crates to cite.
-pub mod CellLaws
-pub mod Masks
-pub mod Written
-pub mod Rows
-pub mod RowReads
-pub mod Searching
+-- What the proofs of the steps share of work memory, for other crates to cite.
 pub mod Stacks
-pub mod TopTable
-pub mod Wanted
-pub mod LabelledTables
+pub mod LiveTables
 pub mod Finish
+pub mod TopLabels
+pub mod MovedDown
+mod TopWidths

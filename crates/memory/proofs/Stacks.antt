@@ -10,19 +10,13 @@ use lib.Dec.{leb, eqb}
 use lib.ListN.{length, getD, take, drop, length-drop}
 use lib.Seq.{length-take-le, drop-at, take-add, take-take}
 use borrow.Author.Tests.{leb-true, le-leb, lt-ltb, ne-eqb}
-use Rattle.memory.specs.Stack.{ready, slot, tableAt, tablesTo, stackOf, widthsTo, replaced, withTable}
+use Rattle.cells.specs.promises.Work.{Work, cellsIn, room}
+use Rattle.memory.specs.promises.Stack.{ready, Ready, slot, tableIn, tablesTo, stackIn, widthsTo, replaced, withTable}
 use Rattle.memory.specs.declared.Stack.{Stack}
 use Rattle.plan.specs.Table.{Cell, Row, rowsOf}
-use Rattle.memory.proofs.Rows.{rows-same}
+use Rattle.cells.proofs.Rows.{rows-same}
 
 -- ---- a stack that fits
-
-pub record Ready (values labels : ℕ) (stack : Stack) : Type 0 where
-  pub values-room : 8192 ≤ values
-  pub labels-room : 8192 ≤ labels
-  pub depth : stack .depth ≤ 3
-  pub rows : (i : ℕ) → i < 3 → getD (stack .rows) i 0 ≤ 256
-  pub columns : (i : ℕ) → i < 3 → getD (stack .columns) i 0 ≤ 8
 
 -- what holds at 0, 1 and 2 holds below 3
 below-three : (P : ℕ → Type 0) → P 0 → P 1 → P 2 → (i : ℕ) → i < 3 → P i
@@ -109,7 +103,7 @@ module _ (values labels : ℕ) (stack : Stack) (index columns rows : ℕ) (r : R
 -- ---- the tables below a slot
 
 -- a part of a list lies in a longer front of it
-part-of-front : (b k n : ℕ) (l : List Cell) → b + k ≤ n → n ≤ length l → take k (drop b (take n l)) ≡ take k (drop b l)
+pub part-of-front : (b k n : ℕ) (l : List Cell) → b + k ≤ n → n ≤ length l → take k (drop b (take n l)) ≡ take k (drop b l)
 part-of-front b k n l h m =
     let e : b + (n - b) ≡ n = omega arith in
     let d : drop b (take n l) ≡ take (n - b) (drop b l)
@@ -120,54 +114,59 @@ part-of-front b k n l h m =
 pub fits-slot : (rows columns : ℕ) → rows ≤ 256 → columns ≤ 8 → rows * columns ≤ 2048
 fits-slot rows columns r c = mul-le-mul r c
 
-module _ (memory after : List Cell) (room : 8192 ≤ length memory) (same-length : length after ≡ length memory) where
-  -- a table below a slot from which on memory was changed is as it was
-  pub table-same : (at n columns rows : ℕ) → at + rows * columns ≤ n → n ≤ 8192 → take n after ≡ take n memory → tableAt after at columns rows ≡ tableAt memory at columns rows
-  table-same at n columns rows h m e =
-      let cells : take (rows * columns) (drop at after) ≡ take (rows * columns) (drop at memory)
-      = sym (part-of-front at (rows * columns) n after h (omega arith)) ∙ ap (λ (l : List Cell). take (rows * columns) (drop at l)) e
-      ∙ part-of-front at (rows * columns) n memory h (omega arith) in
-      let r = rows-same columns rows (drop at after) (drop at memory) (simp length-drop (omega arith)) (simp length-drop (omega arith)) cells in
-      λ i. record { columns = columns; rows = r i }
+module _ (before after : Work) (room-is : room ≤ length (cellsIn before)) (same-length : length (cellsIn after) ≡ length (cellsIn before)) where
+  -- a table below a place from which on memory was changed is as it was
+  pub rows-still : (at n columns rows : ℕ) → at + rows * columns ≤ n → n ≤ room → take n (cellsIn after) ≡ take n (cellsIn before)
+      → rowsOf columns rows (drop at (cellsIn after)) ≡ rowsOf columns rows (drop at (cellsIn before))
+  rows-still at n columns rows h m e =
+      let cells : take (rows * columns) (drop at (cellsIn after)) ≡ take (rows * columns) (drop at (cellsIn before))
+      = sym (part-of-front at (rows * columns) n (cellsIn after) h (omega arith)) ∙ ap (λ (l : List Cell). take (rows * columns) (drop at l)) e
+      ∙ part-of-front at (rows * columns) n (cellsIn before) h (omega arith) in
+      rows-same columns rows (drop at (cellsIn after)) (drop at (cellsIn before)) (simp length-drop (omega arith)) (simp length-drop (omega arith)) cells
+
+  pub table-same : (index n columns rows : ℕ) → slot index + rows * columns ≤ n → n ≤ room → take n (cellsIn after) ≡ take n (cellsIn before)
+      → tableIn after index columns rows ≡ tableIn before index columns rows
+  table-same index n columns rows h m e = λ i. record { columns = columns; rows = rows-still (slot index) n columns rows h m e i }
 
   pub tables-same : {values labels : ℕ} (stack other : Stack) → Ready values labels stack → (n : ℕ) → n ≤ 3
       → ((i : ℕ) → i < n → getD (other .rows) i 0 ≡ getD (stack .rows) i 0) → ((i : ℕ) → i < n → getD (other .columns) i 0 ≡ getD (stack .columns) i 0)
-      → take (slot n) after ≡ take (slot n) memory → tablesTo after other n ≡ tablesTo memory stack n
+      → take (slot n) (cellsIn after) ≡ take (slot n) (cellsIn before) → tablesTo after other n ≡ tablesTo before stack n
   tables-same stack other k zero h r c e = refl
   tables-same stack other k (suc n) h r c e =
       let rows = getD (stack .rows) n 0 in
       let columns = getD (stack .columns) n 0 in
       let cells = fits-slot rows columns (k .rows n h) (k .columns n h) in
-      let below : take (slot n) after ≡ take (slot n) memory
-      = sym (take-take (slot n) (slot (suc n)) after (omega arith)) ∙ ap (take (slot n)) e ∙ take-take (slot n) (slot (suc n)) memory (omega arith) in
-      ap₂ _∷_ (ap₂ (tableAt after (slot n)) (c n (omega arith)) (r n (omega arith)) ∙ table-same (slot n) (slot (suc n)) columns rows (omega arith) (omega arith) e)
+      let below : take (slot n) (cellsIn after) ≡ take (slot n) (cellsIn before)
+      = sym (take-take (slot n) (slot (suc n)) (cellsIn after) (omega arith)) ∙ ap (take (slot n)) e ∙ take-take (slot n) (slot (suc n)) (cellsIn before) (omega arith) in
+      ap₂ _∷_ (ap₂ (tableIn after n) (c n (omega arith)) (r n (omega arith)) ∙ table-same n (slot (suc n)) columns rows (omega arith) (omega arith) e)
       (tables-same stack other k n (omega arith) (λ i l. r i (omega arith)) (λ i l. c i (omega arith)) below)
 
-drop-tables : (memory : List Cell) (stack : Stack) (n k : ℕ) → drop k (tablesTo memory stack (n + k)) ≡ tablesTo memory stack n
-drop-tables memory stack n zero = ap (tablesTo memory stack) (add-zero n)
-drop-tables memory stack n (suc k) = ap (λ (i : ℕ). drop (suc k) (tablesTo memory stack i)) (add-suc n k) ∙ drop-tables memory stack n k
+drop-tables : (work : Work) (stack : Stack) (n k : ℕ) → drop k (tablesTo work stack (n + k)) ≡ tablesTo work stack n
+drop-tables work stack n zero = ap (tablesTo work stack) (add-zero n)
+drop-tables work stack n (suc k) = ap (λ (i : ℕ). drop (suc k) (tablesTo work stack i)) (add-suc n k) ∙ drop-tables work stack n k
 
 -- a table made in a slot, memory below which is as it was: it stands on what is left of the stack
-pub stack-with : {values labels : ℕ} (memory after : List Cell) (stack : Stack) (index taken columns rows : ℕ) (made : List Row) → Ready values labels stack → 8192 ≤ length memory
-    → length after ≡ length memory → index < 3 → stack .depth ≡ index + taken → take (slot index) after ≡ take (slot index) memory → rowsOf columns rows (drop (slot index) after) ≡ made
-    → stackOf after (withTable stack index columns rows) ≡ record { columns = columns; rows = made } ∷ drop taken (stackOf memory stack)
+pub stack-with : {values labels : ℕ} (before after : Work) (stack : Stack) (index taken columns rows : ℕ) (made : List Row) → Ready values labels stack → room ≤ length (cellsIn before)
+    → length (cellsIn after) ≡ length (cellsIn before) → index < 3 → stack .depth ≡ index + taken → take (slot index) (cellsIn after) ≡ take (slot index) (cellsIn before)
+    → rowsOf columns rows (drop (slot index) (cellsIn after)) ≡ made
+    → stackIn after (withTable stack index columns rows) ≡ record { columns = columns; rows = made } ∷ drop taken (stackIn before stack)
 unfolding withTable
-stack-with memory after stack index taken columns rows made ready room same h depth below read =
+stack-with before after stack index taken columns rows made ready room-is same h depth below read =
     let s : Stack = record { depth = suc index; rows = replaced (stack .rows) index rows; columns = replaced (stack .columns) index columns } in
     rw (lt-ltb index 3 h) (
-    let table : tableAt after (slot index) (getD (s .columns) index 0) (getD (s .rows) index 0) ≡ record { columns = columns; rows = made }
-    = ap₂ (tableAt after (slot index)) (replaced-there (stack .columns) index columns h) (replaced-there (stack .rows) index rows h)
+    let table : tableIn after index (getD (s .columns) index 0) (getD (s .rows) index 0) ≡ record { columns = columns; rows = made }
+    = ap₂ (tableIn after index) (replaced-there (stack .columns) index columns h) (replaced-there (stack .rows) index rows h)
     ∙ (λ i. record { columns = columns; rows = read i }) in
-    let lower : tablesTo after s index ≡ tablesTo memory stack index
-    = tables-same memory after room same stack s ready index (omega arith) (λ i l. replaced-other (stack .rows) index rows i (omega arith) (omega arith))
+    let lower : tablesTo after s index ≡ tablesTo before stack index
+    = tables-same before after room-is same stack s ready index (omega arith) (λ i l. replaced-other (stack .rows) index rows i (omega arith) (omega arith))
     (λ i l. replaced-other (stack .columns) index columns i (omega arith) (omega arith)) below in
-    ap₂ _∷_ table (lower ∙ sym (ap (λ (n : ℕ). drop taken (tablesTo memory stack n)) depth ∙ drop-tables memory stack index taken)))
+    ap₂ _∷_ table (lower ∙ sym (ap (λ (n : ℕ). drop taken (tablesTo before stack n)) depth ∙ drop-tables before stack index taken)))
 
 -- the widths on the stack are the tables' columns
-pub widths-are : (memory : List Cell) (stack : Stack) (n : ℕ) → map (λ table. table .columns) (tablesTo memory stack n) ≡ widthsTo stack n
-widths-are memory stack zero = refl
-widths-are memory stack (suc n) = ap (λ (rest : List ℕ). getD (stack .columns) n 0 ∷ rest) (widths-are memory stack n)
+pub widths-are : (work : Work) (stack : Stack) (n : ℕ) → map (λ table. table .columns) (tablesTo work stack n) ≡ widthsTo stack n
+widths-are work stack zero = refl
+widths-are work stack (suc n) = ap (λ (rest : List ℕ). getD (stack .columns) n 0 ∷ rest) (widths-are work stack n)
 
-pub stack-length : (memory : List Cell) (stack : Stack) (n : ℕ) → length (tablesTo memory stack n) ≡ n
-stack-length memory stack zero = refl
-stack-length memory stack (suc n) = ap suc (stack-length memory stack n)
+pub stack-length : (work : Work) (stack : Stack) (n : ℕ) → length (tablesTo work stack n) ≡ n
+stack-length work stack zero = refl
+stack-length work stack (suc n) = ap suc (stack-length work stack n)

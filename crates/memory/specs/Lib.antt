@@ -1,6 +1,2 @@
--- Work memory as tables. These files are what a reader must believe.
-pub mod Cells
-pub mod Stack
-pub mod Steps
-pub mod Search
-pub mod Labelled
+-- Work memory as tables. Nothing here is to be believed: `promises` has what the crates promise one another.
+pub mod promises

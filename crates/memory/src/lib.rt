@@ -1,16 +1,20 @@
 // Work memory: two lent slices, values and labels, of which the first 8,192 elements are used as four slots of 2,048 cells. The
 // table at place i of the stack stands in slot i, row by row; the last slot is for a table that is being made.
-mod cells;
+mod fitting;
 mod live;
-mod search;
 
-pub use cells::move_cells;
-pub use cells::within;
+pub use fitting::fit;
+pub use live::live_table;
 pub use live::no_tables;
 pub use live::ready;
 pub use live::with_table;
-pub use search::not_clear;
-pub use search::table_within;
+
+// The elements that a slot has, where the last slot begins, and the elements of all four.
+pub const SLOT: usize = 2048;
+
+pub const LAST_SLOT: usize = 6144;
+
+pub const ROOM: usize = 8192;
 
 // The live tables: how many there are, and the rows and columns of each, the first pushed first.
 pub struct Stack {
@@ -19,25 +23,31 @@ pub struct Stack {
     pub columns: [usize; 3],
 }
 
-// What a step answers: it made its table; a refusal with its row and column (31, 32, 33, 34); the arguments do not fit.
-pub enum Answer {
-    Made,
+// A live table: its slot, the place at which that begins, and its rows and columns.
+pub struct LiveTable {
+    pub slot: usize,
+    pub at: usize,
+    pub rows: usize,
+    pub columns: usize,
+}
+
+// What a step refuses because of the state, with its row and column: 31, 32, 33, and 34, whose place is fixed.
+pub enum Refusal {
     NotClear(usize, usize),
     Forbidden(usize, usize),
     OperandNotClear(usize, usize),
     TooMany,
+}
+
+// What a step answers: it made its table, it is refused, or its arguments do not fit.
+pub enum StepAnswer {
+    Made,
+    Refused(Refusal),
     DoesNotFit,
 }
 
 // A step's answer, and the stack after it.
 pub struct Stepped {
-    pub answer: Answer,
+    pub answer: StepAnswer,
     pub stack: Stack,
-}
-
-// The first cell that a search finds.
-pub enum Place {
-    At(usize, usize),
-    Nowhere,
-    DoesNotFit,
 }

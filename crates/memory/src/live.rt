@@ -1,7 +1,10 @@
 // The live tables.
 ghost use mathlib.Core.Path.{_≡_};
 ghost use mathlib.Core.Bool.{cond};
-ghost use Rattle.memory.specs.Stack as spec;
+ghost use Rattle.memory.specs.promises.Stack as spec;
+use super::LiveTable;
+use super::ROOM;
+use super::SLOT;
 use super::Stack;
 
 // Whether slices of these lengths are long enough, and the stack has at most three tables of at most 256 rows and 8 columns.
@@ -10,8 +13,8 @@ pub fn ready(values: usize, labels: usize, stack: Stack) -> bool
 {
     let rows = stack.rows;
     let columns = stack.columns;
-    (8192 <= values)
-        & (8192 <= labels)
+    (ROOM <= values)
+        & (ROOM <= labels)
         & (stack.depth <= 3)
         & (rows[0] <= 256)
         & (rows[1] <= 256)
@@ -29,6 +32,39 @@ pub fn no_tables() -> Stack
         depth: 0,
         rows: [0, 0, 0],
         columns: [0, 0, 0],
+    }
+}
+
+// The live table so many below the top one; where there is none, one without rows and columns in the first slot.
+pub fn live_table(stack: Stack, below: usize) -> LiveTable
+    ensures { λ r. ⌜ r ≡ spec.liveTable stack below ⌝ }
+{
+    let depth = stack.depth;
+    if 3 < depth {
+        return no_table();
+    }
+    if depth <= below {
+        return no_table();
+    }
+    let slot = depth - 1 - below;
+    let rows = stack.rows;
+    let columns = stack.columns;
+    LiveTable {
+        slot: slot,
+        at: SLOT * slot,
+        rows: rows[slot],
+        columns: columns[slot],
+    }
+}
+
+fn no_table() -> LiveTable
+    ensures { λ r. ⌜ r ≡ spec.noTable ⌝ }
+{
+    LiveTable {
+        slot: 0,
+        at: 0,
+        rows: 0,
+        columns: 0,
     }
 }
 

@@ -26,3 +26,17 @@ or-right false b e = e
 pub or-mono : (a b c d : Bool) → (a ≡ true → c ≡ true) → (b ≡ true → d ≡ true) → (a || b) ≡ true → (c || d) ≡ true
 or-mono true b c d f g e = rw (f refl)
 or-mono false b c d f g e = or-right c d (g e)
+
+-- the first of two tests, or the second
+pub either-true : {A : Type 0} (a b : Bool) → (a ≡ true → A) → (b ≡ true → A) → (a || b) ≡ true → A
+either-true true b f g e = f refl
+either-true false b f g e = g e
+
+-- a test that is not one is the other
+pub is-true : (b : Bool) → (b ≡ false → ⊥) → b ≡ true
+is-true true f = refl
+is-true false f = absurd (f refl)
+
+pub is-false : (b : Bool) → (b ≡ true → ⊥) → b ≡ false
+is-false true f = absurd (f refl)
+is-false false f = refl

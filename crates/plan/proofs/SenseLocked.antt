@@ -1,19 +1,15 @@
 -- What `locked` says, and that APPLY leaves the row that it reads. Assumes nothing.
 use Prim.Native.Nat.{ℕ}
-use mathlib.Core.Path.{_≡_, refl}
-use mathlib.Core.Bool.{Bool, true, false, _||_, false≢true}
+use mathlib.Core.Path.{_≡_}
+use mathlib.Core.Bool.{true, false≢true}
 use mathlib.Core.List.{List, [], _∷_}
 use lib.Seq.{take-append-seam}
 use Rattle.plan.specs.Locked.{appliesAt, groupsAt, anyStep}
 use Rattle.plan.specs.Sense.{ApplyKeeps, SomeApply, SomeGroup, UnlockedMeans}
 use Rattle.plan.specs.declared.Step.{Step}
 use Rattle.plan.specs.declared.Step.the-variants.{Scan, Union, Join, Filter, Keep, Apply, Group}
+use Rattle.plan.proofs.Bools.{either-true}
 use Rattle.plan.proofs.LockedLaws.{unlocked}
-
--- the first of two tests, or the second
-either-true : {A : Type 0} (a b : Bool) → (a ≡ true → A) → (b ≡ true → A) → (a || b) ≡ true → A
-either-true true b f g e = f refl
-either-true false b f g e = g e
 
 some-apply : (label : ℕ) (plan : List Step) → anyStep (appliesAt label) plan ≡ true → SomeApply label plan
 some-apply label [] e = absurd (false≢true e)

@@ -1,5 +1,5 @@
 -- The shape of what a step makes: rows of the table's width, the columns that the plan's check counts, and at most 256 rows. Assumes nothing.
-use Prim.Native.Nat.{ℕ, zero, suc, _+_, _-_, _≤_, _<_}
+use Prim.Native.Nat.{ℕ, suc, _+_, _-_, _≤_, _<_}
 use mathlib.Core.Path.{_≡_, refl, sym, ap, ap₂, _∙_}
 use mathlib.Core.Bool.{Bool, true, false, cond, _&&_}
 use mathlib.Core.List.{List, [], _∷_, _++_, map}
@@ -8,8 +8,6 @@ use native.Mathlib.Omega.{arith}
 use lib.Dec.{ltb}
 use lib.ListN.{length, getD, take, drop, length-append, length-take, length-drop, length-map, List·getD-map}
 use borrow.Author.Tests.{ltb-true, ltb-false, eqb-true}
-use Rattle.label.specs.Stages.{one}
-use Rattle.label.specs.Word.{bitAt}
 use Rattle.plan.specs.Apply.{appliedRow, applied}
 use Rattle.plan.specs.Filter.{passing, filtered}
 use Rattle.plan.specs.Group.{groupsAfter, groupRow, grouped, anySame, sameKeys}
@@ -18,7 +16,7 @@ use Rattle.plan.specs.Keep.{keptCount, keptCells, keptRow, kept}
 use Rattle.plan.specs.Scan.{scanned}
 use Rattle.plan.specs.Sense.{Each, Shaped, MadeShaped, Small, MadeSmall}
 use Rattle.plan.specs.Steps.{make, grows, tooMany}
-use Rattle.plan.specs.Table.{Cell, Row, Table, noTable, cellAt, top, second}
+use Rattle.plan.specs.Table.{Cell, Row, Table, noTable, top, second}
 use Rattle.plan.specs.Union.{united}
 use Rattle.plan.specs.Verdict.{fine}
 use Rattle.plan.specs.Widths.{columnsExist, madeColumns}
@@ -27,26 +25,8 @@ use Rattle.plan.specs.declared.Step.{Step}
 use Rattle.plan.specs.declared.Step.the-variants.{Scan, Union, Join, Filter, Keep, Apply, Group}
 use Rattle.plan.proofs.Alike.{if-fine}
 use Rattle.plan.proofs.Bools.{and-true}
-
--- ---- facts of each element
-
-module _ {A : Type 0} where
-  pub each-append : (P : A → Type 0) (xs ys : List A) → Each P xs → Each P ys → Each P (xs ++ ys)
-  each-append P [] ys p q = q
-  each-append P (x ∷ xs) ys p q = (p .0, each-append P xs ys (p .1) q)
-
-  pub each-get : (P : A → Type 0) (xs : List A) (n : ℕ) (d : A) → P d → Each P xs → P (getD xs n d)
-  each-get P [] n d h p = h
-  each-get P (x ∷ xs) zero d h p = p .0
-  each-get P (x ∷ xs) (suc n) d h p = each-get P xs n d h (p .1)
-
-  pub each-cond : (P : A → Type 0) (b : Bool) (xs ys : List A) → Each P xs → Each P ys → Each P (cond b xs ys)
-  each-cond P true xs ys p q = p
-  each-cond P false xs ys p q = q
-
-pub each-map : {A B : Type 0} (P : A → Type 0) (Q : B → Type 0) (f : A → B) → ((x : A) → P x → Q (f x)) → (xs : List A) → Each P xs → Each Q (map f xs)
-each-map P Q f h [] p = tt
-each-map P Q f h (x ∷ xs) p = (h x (p .0), each-map P Q f h xs (p .1))
+pub use Rattle.plan.proofs.SenseEach.{each-append, each-get, each-cond, each-map}
+pub use Rattle.plan.proofs.SenseKeep.{kept-length}
 
 each-pass : (P : Row → Type 0) (pass : Row → Bool) (rows : List Row) → Each P rows → Each P (passing pass rows)
 each-pass P pass [] p = tt
@@ -56,15 +36,6 @@ each-pass P pass (row ∷ rest) p = each-cond P (pass row) (row ∷ passing pass
 
 abbrev Wide : ℕ → Row → Type 0
 Wide columns row = length (row .cells) ≡ columns
-
-length-cond : (b : Bool) (cell : Cell) → length (cond b (cell ∷ []) []) ≡ one b
-length-cond true cell = refl
-length-cond false cell = refl
-
-pub kept-length : (mask columns : ℕ) (row : Row) → length (keptCells mask columns row) ≡ keptCount mask columns
-kept-length mask zero row = refl
-kept-length mask (suc column) row =
-    length-append (keptCells mask column row) _ ∙ ap₂ _+_ (kept-length mask column row) (length-cond (bitAt mask column) (cellAt column row))
 
 -- a row without one of its columns is one cell shorter
 without-length : (b : ℕ) (cells : List Cell) → b < length cells → length (take b cells ++ drop (suc b) cells) ≡ length cells - 1

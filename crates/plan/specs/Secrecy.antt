@@ -1,4 +1,4 @@
--- Demand 3 of the evaluation. "Two inputs that differ only in the values of locked cells give the same answer, rows, places and trace lines".
+-- Demand 3 of the evaluation: two inputs that differ only in the values of locked cells give the same answer, rows, places and trace lines.
 use mathlib.Core.Path.{_≡_}
 use mathlib.Core.Bool.{false}
 use mathlib.Core.List.{List, [], _∷_}

@@ -1,16 +1,14 @@
--- What the definitions should give if they say what is meant. Each of these is proved.
-use Prim.Native.Nat.{ℕ, _+_, _≤_, _<_}
+-- What the definitions give if they say what is meant. These are theorems about the definitions, each proved; nothing here is to be believed. The
+-- files below go on by theme.
+use Prim.Native.Nat.{ℕ, _≤_}
 use mathlib.Core.Path.{_≡_}
-use mathlib.Core.Bool.{Bool, true, false}
+use mathlib.Core.Bool.{true, false}
 use mathlib.Core.List.{List, [], _∷_, map}
 use lib.ListN.{length, take}
 use Rattle.label.specs.Discharge.{allowsTransform, allowsAggregate}
-use Rattle.label.specs.Stages.{one}
 use Rattle.label.specs.Word.{hasH, hasT, hasA, hasN}
 use Rattle.plan.specs.Apply.{appliedRow}
 use Rattle.plan.specs.Evaluate.{release, refuse, evaluate}
-use Rattle.plan.specs.Filter.{passing}
-use Rattle.plan.specs.Group.{groupsAfter}
 use Rattle.plan.specs.Locked.{locked}
 use Rattle.plan.specs.Numbers.{transformCode, digitsOf, aggregateCode}
 use Rattle.plan.specs.Steps.{make, tooMany}
@@ -22,6 +20,13 @@ use Rattle.plan.specs.declared.Step.{Step}
 use Rattle.plan.specs.declared.Step.the-variants.{Apply, Group}
 use Rattle.plan.specs.declared.Transform.{Transform}
 use Rattle.value.specs.Range.{inRange}
+pub mod Rows
+pub mod Groups
+pub mod Refusals
+pub mod Trace
+pub mod Ending
+pub mod Labels
+pub mod Aggregates
 
 -- a fact of each element
 abbrev pub Each : {A : Type 0} → (A → Type 0) → List A → Type 0
@@ -56,29 +61,6 @@ Small table = length (table .rows) ≤ 256
 abbrev pub MadeSmall : Type 0
 MadeSmall = (step : Step) (tables stack : List Table) → Each Small tables → Each Small stack → tooMany step (make step tables stack) ≡ fine
     → Small (make step tables stack)
-
--- FILTER keeps the order and only drops rows
-pub data Dropped {A : Type 0} : List A → List A → Type 0 where
-  end : Dropped [] []
-  drops : {x : A} {xs ys : List A} → Dropped xs ys → Dropped xs (x ∷ ys)
-  keeps : {x : A} {xs ys : List A} → Dropped xs ys → Dropped (x ∷ xs) (x ∷ ys)
-
-abbrev pub FilterDrops : Type 0
-FilterDrops = (pass : Row → Bool) (rows : List Row) → Dropped (passing pass rows) rows
-
--- how many rows pass a test
-abbrev pub count : (Row → Bool) → List Row → ℕ
-count test [] = 0
-count test (row ∷ rest) = one (test row) + count test rest
-
-abbrev pub countAll : (Row → Bool) → List (List Row) → ℕ
-countAll test [] = 0
-countAll test (group ∷ rest) = count test group + countAll test rest
-
--- each group has a row, and the groups' rows are exactly the rows read: as many in the groups as in the table pass any test
-abbrev pub GroupsPartition : Type 0
-GroupsPartition = (keys columns : ℕ) (rows : List Row) → Each (λ group. 0 < length group) (groupsAfter keys columns [] rows)
-    × ((test : Row → Bool) → countAll test (groupsAfter keys columns [] rows) ≡ count test rows)
 
 -- APPLY leaves the cells that it reads as they are: a row made begins with the row read
 abbrev pub ApplyKeeps : Type 0

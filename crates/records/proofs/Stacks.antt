@@ -1,84 +1,37 @@
 -- The widths on the stack of the plan check. Assumes nothing.
 use Prim.Native.Nat.{ℕ, zero, suc, _+_, _-_, _≤_, _<_}
 use mathlib.Core.Path.{_≡_, refl, sym, ap, _∙_}
-use mathlib.Core.Bool.{Bool, true, false, cond, and-eq-true-iff}
+use mathlib.Core.Bool.{Bool, true, false, cond}
 use mathlib.Core.List.{List, [], _∷_}
-use native.Mathlib.Nat.{mod-lt}
 use native.Mathlib.Numerals.{add-one}
 use native.Mathlib.Omega.{arith}
-use lib.Dec.{eqb, leb, ltb, lit<}
 use lib.ListN.{length, getD, take, drop, drop-of-length-le}
 use lib.Seq.{drop-cons, length-take-le, getD-drop}
-use borrow.Author.Tests.{leb-true, ltb-true}
-use Rattle.label.specs.Stages.{one}
-use Rattle.label.specs.Word.{fieldAt, bitAt}
-use Rattle.plan.specs.Keep.{keptCount}
-use Rattle.plan.specs.Steps.{takes}
-use Rattle.plan.specs.Widths.{enoughTables, columnsExist, madeColumns, placed}
+use borrow.Author.Tests.{le-leb}
+use Rattle.kinds.specs.declared.Width.{Width}
+use Rattle.kinds.specs.declared.Width.the-variants.{Columns, Misplaced}
+use Rattle.kinds.specs.promises.Widths.{madeWidth}
+use Rattle.plan.specs.Widths.{placed, madeColumns}
 use Rattle.plan.specs.declared.Step.{Step}
-use Rattle.plan.specs.declared.Step.the-variants.{Scan, Union, Join, Filter, Keep, Apply, Group}
 use Rattle.records.specs.Private.{stackOf, Kept, Pushed}
 use Rattle.records.specs.declared.Widths.{Widths}
+use Rattle.kinds.proofs.Laws.{two-looked-at}
 
-pub enough-is : (step : Step) (depth : ℕ) → enoughTables step depth ≡ cond (eqb (takes step) 0) (ltb depth 3) (leb (takes step) depth)
-unfolding enoughTables
-enough-is (Scan table) depth = refl
-enough-is Union depth = refl
-enough-is (Join left right) depth = refl
-enough-is (Filter column comparison operand) depth = refl
-enough-is (Keep mask) depth = refl
-enough-is (Apply column transform) depth = refl
-enough-is (Group keys aggregate column) depth = refl
+-- what a step makes, by the two tables on top
+pub width-is : (step : Step) (tables stack : List ℕ) (left right : ℕ) → left ≡ getD stack 1 0 → right ≡ getD stack 0 0 → left ≤ 8 → right ≤ 8
+    → madeWidth step tables left right ≡ cond (placed step tables stack) (Columns (madeColumns step tables stack)) Misplaced
+width-is step tables stack left right el er h k =
+    let two = two-looked-at step tables stack in
+    rw (two .0, two .1, ← el, ← er, le-leb left 8 h, le-leb right 8 k)
 
--- a step with enough tables takes those that there are, and leaves at most two
-pub enough-room : (step : Step) (depth : ℕ) → depth ≤ 3 → enoughTables step depth ≡ true → (takes step ≤ depth) × (depth < takes step + 3)
-unfolding enoughTables
-enough-room (Scan table) depth h e = omega (arith, ltb-true depth 3 e)
-enough-room Union depth h e = omega (arith, leb-true 2 depth e)
-enough-room (Join left right) depth h e = omega (arith, leb-true 2 depth e)
-enough-room (Filter column comparison operand) depth h e = omega (arith, leb-true 1 depth e)
-enough-room (Keep mask) depth h e = omega (arith, leb-true 1 depth e)
-enough-room (Apply column transform) depth h e = omega (arith, leb-true 1 depth e)
-enough-room (Group keys aggregate column) depth h e = omega (arith, leb-true 1 depth e)
+-- so a step that makes columns is placed, and makes so many
+pub columns-placed : (b : Bool) (m : ℕ) {n : ℕ} → cond b (Columns m) Misplaced ≡ Columns n → (b ≡ true) × (n ≡ m)
+columns-placed true m e = (refl, cc)
+columns-placed false m e = (cc, cc)
 
-pub placed-parts : (step : Step) (tables stack : List ℕ) → placed step tables stack ≡ true
-    → (columnsExist step tables stack ≡ true) × (madeColumns step tables stack ≤ 8)
-placed-parts step tables stack e =
-    let b = and-eq-true-iff (columnsExist step tables stack) (leb (madeColumns step tables stack) 8) .0 e in
-    (b .0, leb-true (madeColumns step tables stack) 8 (b .1))
-
--- a step looks at two tables of the stack
-abbrev pub topTwo : List ℕ → List ℕ
-topTwo stack = getD stack 0 0 ∷ getD stack 1 0 ∷ []
-
-pub two-looked-at : (step : Step) (tables stack : List ℕ)
-    → (columnsExist step tables stack ≡ columnsExist step tables (topTwo stack)) × (madeColumns step tables stack ≡ madeColumns step tables (topTwo stack))
-unfolding columnsExist madeColumns
-two-looked-at (Scan table) tables stack = (refl, refl)
-two-looked-at Union tables stack = (refl, refl)
-two-looked-at (Join left right) tables stack = (refl, refl)
-two-looked-at (Filter column comparison operand) tables stack = (refl, refl)
-two-looked-at (Keep mask) tables stack = (refl, refl)
-two-looked-at (Apply column transform) tables stack = (refl, refl)
-two-looked-at (Group keys aggregate column) tables stack = (refl, refl)
-
-one-le : (t : Bool) → one t ≤ 1
-one-le true = omega arith
-one-le false = omega arith
-
-pub kept-le : (mask width : ℕ) → keptCount mask width ≤ width
-kept-le mask zero = omega arith
-kept-le mask (suc width) = omega (arith, kept-le mask width, one-le (bitAt mask width))
-
-digit : (d : ℕ) → d < 2 → d ≡ one (eqb d 1)
-digit zero h = refl
-digit (suc zero) h = refl
-digit (suc (suc d)) h = absurd (omega arith)
-
--- one column more
-pub kept-more : (mask column : ℕ) → keptCount mask (suc column) ≡ keptCount mask column + fieldAt mask column 1
-unfolding fieldAt
-kept-more mask column = ap (λ (d : ℕ). keptCount mask column + d) (sym (digit _ (mod-lt _ (lit< tt))))
+pub misplaced : (b : Bool) (m : ℕ) → cond b (Columns m) Misplaced ≡ Misplaced → b ≡ false
+misplaced true m e = cc
+misplaced false m e = refl
 
 -- the tables under those that a step takes, at most two
 pub under : (s : List ℕ) (k n : ℕ) → length s ≡ k + n → n ≤ 2 → take n (getD s k 0 ∷ getD s (k + 1) 0 ∷ []) ≡ drop k s

@@ -9,9 +9,9 @@ use super::Found;
 use super::PlanCheck;
 use super::Widths;
 use super::record::found_at;
-use super::stack::after;
-use super::stack::enough_tables;
-use super::stack::placed;
+use super::stack::made_width;
+use super::stack::pushed;
+use kinds::Width;
 
 // How many steps a plan has room for.
 pub fn step_count(plan: &[u8]) -> usize
@@ -45,21 +45,24 @@ fn check_steps(plan: &[u8], at: usize, tables: &[usize]) -> PlanCheck
     ensures { λ r. ⌜ planSaid r ≡ checkSteps (now (plan .entry)) at 0 (stepCount (now (plan .entry))) (now (tables .entry)) [] ⌝ }
 {
     let count = step_count(plan);
-    let columns = [0; 3];
-    let mut stack = Widths { depth: 0, columns };
+    let none = [0; 3];
+    let mut stack = Widths {
+        depth: 0,
+        columns: none,
+    };
     let mut step = 0;
     while step < count {
         let place = at + 16 * step;
         let Found::Step(next) = found_at(plan, step) else {
             return PlanCheck::Record(place);
         };
-        if !enough_tables(next, stack.depth) {
+        if !kinds::enough_tables(next, stack.depth) {
             return PlanCheck::Tables(place);
         }
-        if !placed(next, tables, stack) {
+        let Width::Columns(columns) = made_width(next, tables, stack) else {
             return PlanCheck::Columns(place);
-        }
-        stack = after(next, tables, stack);
+        };
+        stack = pushed(stack, kinds::takes(next), columns);
         step += 1;
     }
     if stack.depth != 1 {

@@ -5,8 +5,8 @@ mod printed;
 ghost use mathlib.Core.Path.{_≡_};
 ghost use mathlib.Core.Bool.{true};
 ghost use Rattle.evaluator.specs.Answers.{said};
-ghost use Rattle.evaluator.specs.Lent.{Lent, enough};
-ghost use Rattle.evaluator.specs.Monitor.{monitor};
+ghost use Rattle.demands.specs.Lent.{Lent, enough};
+ghost use Rattle.demands.specs.Monitor.{monitor};
 use evaluator::Answer;
 
 // Runs a container over slices of its own, prints what the monitor makes of it, and answers as the monitor does. What it prints is

@@ -1,7 +1,7 @@
 -- SCAN in work memory and its meaning. Assumes nothing.
 use Prim.Native.Nat.{ℕ, zero, suc, _+_, _-_, _*_, _≤_, _<_}
 use mathlib.Core.Path.{_≡_, refl, sym, ap, ap₂, _∙_}
-use mathlib.Core.Bool.{Bool, true, false, _&&_, and-eq-true-iff, true≢false}
+use mathlib.Core.Bool.{Bool, true, false, _&&_, and-eq-true-iff}
 use mathlib.Core.List.{List, [], _∷_, _++_, map, append-assoc}
 use native.Mathlib.Nat.{add-zero, mul-le-mul}
 use native.Mathlib.Omega.{arith}
@@ -17,31 +17,32 @@ use Rattle.container.specs.TablePart.{columnsOf, rowCount, cellCount, cellsFrom
 use Rattle.container.specs.declared.Reading.{Reading}
 use Rattle.container.specs.declared.Reading.the-variants as reading
 use Rattle.container.specs.declared.Shape.{Shape}
-use Rattle.memory.specs.declared.Answer.the-variants.{Made}
+use Rattle.memory.specs.declared.StepAnswer.the-variants.{Made}
 use Rattle.memory.specs.declared.Stack.{Stack}
-use Rattle.memory.specs.Cells.{cellsOf, flat, Kept}
-use Rattle.memory.specs.Stack.{slot, stackOf, widthsTo, withTable}
-use Rattle.memory.specs.Steps.{verdict, fits, widthsOf, DoneWhere}
-use Rattle.memory.proofs.CellLaws.{cells-length, cells-append, cells-drop, cells-take}
+use Rattle.cells.specs.promises.Cells.{cellsOf, flat}
+use Rattle.cells.specs.promises.Work.{Work, work, room, Kept}
+use Rattle.cells.specs.promises.Written.{Written, CellsWritten}
+use Rattle.memory.specs.promises.Stack.{Ready, slot, stackIn, widthsTo, withTable}
+use Rattle.memory.specs.promises.Steps.{verdict, fits, widthsOf, DoneWhere}
+use Rattle.cells.proofs.CellLaws.{cells-length, cells-append, cells-drop, cells-take}
 use Rattle.memory.proofs.Finish.{written-done}
-use Rattle.memory.proofs.RowReads.{flat-rows}
-use Rattle.memory.proofs.Rows.{rows-wide, rows-length}
-use Rattle.memory.proofs.Stacks.{Ready}
-use Rattle.memory.proofs.TopTable.{fits-parts}
-use Rattle.memory.proofs.Written.{Written, as-long, past-any}
+use Rattle.cells.proofs.RowReads.{flat-rows}
+use Rattle.cells.proofs.Rows.{rows-wide, rows-length}
+use Rattle.memory.proofs.LiveTables.{fits-parts}
+use Rattle.cells.proofs.Written.{as-long, past-any}
 use Rattle.plan.specs.declared.Step.the-variants.{Scan}
 use Rattle.plan.specs.Scan.{scanned}
 use Rattle.plan.specs.Steps.{check, make, tooMany}
 use Rattle.plan.specs.Table.{Cell, rowsOf}
 use Rattle.plan.specs.Verdict.{fine}
 use Rattle.plan.specs.Widths.{enoughTables, columnsExist}
-use Rattle.scan.specs.Scanning.{cellsFit, scanFits}
+use Rattle.scan.specs.promises.Scanning.{cellsFit, scanFits}
 use Rattle.scan.proofs.Tables.{widths-count, table-is}
 
 -- what a scan that fits finds
 pub record ScanFits (bytes : List ℕ) (table values labels : ℕ) (stack : Stack) : Type 0 where
   pub is-ready : Ready values labels stack
-  pub room : stack .depth < 3
+  pub room-left : stack .depth < 3
   pub exists : table < partCount bytes - 1
   pub narrow : columnsOf (partOf bytes (table + 1)) ≤ 8
   pub short : rowCount (partOf bytes (table + 1)) ≤ 256
@@ -59,7 +60,7 @@ scan-parts bytes table values labels stack t =
     let shape = and-eq-true-iff (leb (columnsOf part) 8) (leb (rowCount part) 256) .0 (cells .0) in
     record {
       is-ready = parts .0;
-      room = ltb-true (stack .depth) 3 (parts .1);
+      room-left = ltb-true (stack .depth) 3 (parts .1);
       exists = omega (arith, ltb-true table (length widths) exist, widths-count bytes);
       narrow = leb-true _ 8 (shape .0);
       short = leb-true _ 256 (shape .1);
@@ -82,7 +83,7 @@ again : (cells : List Cell) → cellsOf (map (λ cell. cell .value) cells) (map 
 again [] = refl
 again (cell ∷ rest) = ap (λ (l : List Cell). cell ∷ l) (again rest)
 
-module _ (bytes : List ℕ) (table : ℕ) (v : List ℤ) (l : List ℕ) (stack : Stack) (f : ScanFits bytes table (length v) (length l) stack) where
+module _ (bytes : List ℕ) (table : ℕ) (w : Work) (stack : Stack) (f : ScanFits bytes table (length (w .values)) (length (w .labels)) stack) where
   abbrev part : List ℕ
   part = partOf bytes (table + 1)
 
@@ -92,86 +93,89 @@ module _ (bytes : List ℕ) (table : ℕ) (v : List ℤ) (l : List ℕ) (stack :
   abbrev cells : List Cell
   cells = cellsFrom part 0 (cellCount part)
 
-  few : at + cellCount part ≤ 8192
-  few = omega (arith, f .room, mul-le-mul (f .short) (f .narrow))
+  abbrev news : List ℤ
+  news = map (λ cell. cell .value) cells
 
-  can-read : readable part (length v) (length l) at ≡ true
+  abbrev marks : List ℕ
+  marks = map (λ cell. cell .label) cells
+
+  abbrev after : Work
+  after = work (overwritten (w .values) at news) (overwritten (w .labels) at marks)
+
+  few : at + cellCount part ≤ room
+  few = omega (arith, f .room-left, mul-le-mul (f .short) (f .narrow))
+
+  can-read : readable part (length (w .values)) (length (w .labels)) at ≡ true
   unfolding readable
-  can-read = rw (le-leb (4 + 12 * cellCount part) (length part) (f .whole), le-leb (at + cellCount part) (length v) (omega (arith, few, f .is-ready .values-room)), le-leb (at + cellCount part) (length l) (omega (arith, few, f .is-ready .labels-room)))
+  can-read = rw (
+    le-leb (4 + 12 * cellCount part) (length part) (f .whole),
+    le-leb (at + cellCount part) (length (w .values)) (omega (arith, few, f .is-ready .values-room)),
+    le-leb (at + cellCount part) (length (w .labels)) (omega (arith, few, f .is-ready .labels-room)),
+  )
+
+  -- what reading answers and leaves
+  pub scan-answer : {answer : Reading} {v′ : List ℤ} {l′ : List ℕ} → Read part (w .values) (w .labels) at answer v′ l′ → answer ≡ reading.Cells (shapeOf part)
+  unfolding readingOf
+  scan-answer r = r .answers ∙ rw can-read
+
+  pub scan-after : {answer : Reading} {v′ : List ℤ} {l′ : List ℕ} → Read part (w .values) (w .labels) at answer v′ l′ → work v′ l′ ≡ after
+  unfolding valuesAfter labelsAfter
+  scan-after r = ap₂ work (r .writesValues ∙ rw can-read) (r .writesLabels ∙ rw can-read)
 
   -- the elements of a column of the cells, written from the place on
-  column-written : {A : Type 0} (list : List A) (field : Cell → A) → 8192 ≤ length list → Written list at (map field cells) (overwritten list at (map field cells))
+  column-written : {A : Type 0} (list : List A) (field : Cell → A) → room ≤ length list → Written list at (map field cells) (overwritten list at (map field cells))
   column-written list field h = record { room = omega (arith, few, length-map cells field, cells-count part 0 (cellCount part)); is = append-assoc (take at list) (map field cells) _ }
 
-  written-cells : {v′ : List ℤ} {l′ : List ℕ} → v′ ≡ overwritten v at (map (λ cell. cell .value) cells) → l′ ≡ overwritten l at (map (λ cell. cell .label) cells)
-      → Written (cellsOf v l) at cells (cellsOf v′ l′)
-  written-cells values-are labels-are =
+  written-cells : CellsWritten w at cells after
+  written-cells =
+      let v = w .values in
+      let l = w .labels in
       let count = cells-count part 0 (cellCount part) in
-      let news = map (λ (cell : Cell). cell .value) cells in
-      let marks = map (λ (cell : Cell). cell .label) cells in
       let long-v : length news ≡ length cells = length-map cells (λ cell. cell .value) in
       let long-l : length marks ≡ length cells = length-map cells (λ cell. cell .label) in
       let fronts : length (take at v) ≡ length (take at l) = simp length-take (omega (arith, few, f .is-ready .values-room, f .is-ready .labels-room)) in
       record {
-        room = omega (arith, few, count, cells-length v l 8192 (f .is-ready .values-room) (f .is-ready .labels-room));
-        is = ap₂ cellsOf (values-are ∙ append-assoc (take at v) news _) (labels-are ∙ append-assoc (take at l) marks _) ∙ cells-append (take at v) (news ++ drop (at + length news) v) (take at l) (marks ++ drop (at + length marks) l) fronts
+        room = omega (arith, few, count, cells-length w room (f .is-ready .values-room) (f .is-ready .labels-room));
+        is = ap₂ cellsOf (append-assoc (take at v) news _) (append-assoc (take at l) marks _) ∙ cells-append (take at v) (news ++ drop (at + length news) v) (take at l) (marks ++ drop (at + length marks) l) fronts
             ∙ ap₂ _++_ (cells-take at v l)
             (cells-append news (drop (at + length news) v) marks (drop (at + length marks) l) (long-v ∙ sym long-l)
             ∙ ap₂ _++_ (again cells)
             (ap₂ (λ (n m : ℕ). cellsOf (drop (at + n) v) (drop (at + m) l)) long-v long-l ∙ cells-drop (at + length cells) v l));
       }
 
-  made-is : make (Scan table) (tablesOf bytes) (stackOf (cellsOf v l) stack) ≡ record { columns = columnsOf part; rows = rowsOf (columnsOf part) (rowCount part) cells }
+  kept : Kept w after
+  kept =
+      let wv = column-written (w .values) (λ cell. cell .value) (f .is-ready .values-room) in
+      let wl = column-written (w .labels) (λ cell. cell .label) (f .is-ready .labels-room) in
+      let count = cells-count part 0 (cellCount part) in
+      record {
+        as-many-values = as-long wv;
+        as-many-labels = as-long wl;
+        values-past = past-any wv room (omega (arith, few, count, length-map cells (λ cell. cell .value)));
+        labels-past = past-any wl room (omega (arith, few, count, length-map cells (λ cell. cell .label)));
+      }
+
+  made-is : make (Scan table) (tablesOf bytes) (stackIn w stack) ≡ record { columns = columnsOf part; rows = rowsOf (columnsOf part) (rowCount part) cells }
   unfolding make scanned tableOf
   made-is = table-is bytes table (f .exists)
 
-  nothing-refused : verdict (Scan table) (tablesOf bytes) (stackOf (cellsOf v l) stack) ≡ fine
+  nothing-refused : verdict (Scan table) (tablesOf bytes) (stackIn w stack) ≡ fine
   unfolding check tooMany
   nothing-refused = refl
 
   all-cells : flat (rowsOf (columnsOf part) (rowCount part) cells) ≡ cells
   all-cells = flat-rows (columnsOf part) (rowCount part) cells ∙ take-all (rowCount part * columnsOf part) cells (omega (arith, cells-count part 0 (cellCount part)))
 
-  pub scan-answer : (answer : Reading) (v′ : List ℤ) (l′ : List ℕ) → Read part v l at answer v′ l′ → answer ≡ reading.Cells (shapeOf part)
-  unfolding readingOf
-  scan-answer answer v′ l′ r = r .answers ∙ rw can-read
-
-  pub scan-made : scanFits bytes table (length v) (length l) stack ≡ true → (answer : Reading) (v′ : List ℤ) (l′ : List ℕ) (shape : Shape) (after : Stack) → Read part v l at answer v′ l′
-      → shape ≡ shapeOf part → after ≡ withTable stack (stack .depth) (shape .columns) (shape .rows)
-      → DoneWhere (scanFits bytes table (length v) (length l) stack) (Scan table) (tablesOf bytes) v l stack (record { answer = Made; stack = after }) v′ l′
-  unfolding valuesAfter labelsAfter shapeOf
-  scan-made t answer v′ l′ shape after r shaped is =
-      let values-are : v′ ≡ overwritten v at (map (λ cell. cell .value) cells) = r .writesValues ∙ rw can-read in
-      let labels-are : l′ ≡ overwritten l at (map (λ cell. cell .label) cells) = r .writesLabels ∙ rw can-read in
-      let wv = column-written v (λ cell. cell .value) (f .is-ready .values-room) in
-      let wl = column-written l (λ cell. cell .label) (f .is-ready .labels-room) in
-      let count = cells-count part 0 (cellCount part) in
-      let long-v = length-map cells (λ cell. cell .value) in
-      let long-l = length-map cells (λ cell. cell .label) in
-      let written : Written (cellsOf v l) at cells (cellsOf v′ l′) = written-cells values-are labels-are in
-      let kept : Kept v l v′ l′ = record {
-        as-many-values = ap length values-are ∙ as-long wv;
-        as-many-labels = ap length labels-are ∙ as-long wl;
-        values-past = ap (drop 8192) values-are ∙ past-any wv 8192 (omega (arith, few, count, long-v));
-        labels-past = ap (drop 8192) labels-are ∙ past-any wl 8192 (omega (arith, few, count, long-l));
-      } in
-      written-done (Scan table) (tablesOf bytes) v l stack t (stack .depth) (columnsOf part) (rowCount part) (rowsOf (columnsOf part) (rowCount part) cells) after v′ l′ (f .is-ready)
-      nothing-refused (f .room) (sym (add-zero (stack .depth))) made-is (f .narrow) (f .short) (sym (rows-length (columnsOf part) (rowCount part) cells))
-      (rows-wide (columnsOf part) (rowCount part) cells (omega (arith, count))) (rw all-cells written) kept
-      (is ∙ ap (λ (s : Shape). withTable stack (stack .depth) (s .columns) (s .rows)) shaped)
-
-shapeIn : Reading → Shape
-shapeIn (reading.Cells shape) = shape
-shapeIn reading.DoesNotFit = record { columns = 0; rows = 0 }
-
-fitting : Reading → Bool
-fitting (reading.Cells shape) = true
-fitting reading.DoesNotFit = false
+  pub scan-made : {fit : Bool} → fit ≡ true → {shape : Shape} {stack′ : Stack} {w′ : Work} → shape ≡ shapeOf part → stack′ ≡ withTable stack (stack .depth) (shape .columns) (shape .rows) → w′ ≡ after
+      → DoneWhere fit (Scan table) (tablesOf bytes) w stack (record { answer = Made; stack = stack′ }) w′
+  unfolding shapeOf
+  scan-made t shaped stacked left =
+      rw (left, stacked, shaped) (written-done (Scan table) (tablesOf bytes) w stack t (stack .depth) (columnsOf part) (rowCount part) (rowsOf (columnsOf part) (rowCount part) cells) after (f .is-ready)
+      nothing-refused (f .room-left) (sym (add-zero (stack .depth))) made-is (f .narrow) (f .short) (sym (rows-length (columnsOf part) (rowCount part) cells))
+      (rows-wide (columnsOf part) (rowCount part) cells (omega (arith, cells-count part 0 (cellCount part)))) (rw all-cells written-cells) kept)
 
 pub cells-differ : {shape : Shape} → reading.DoesNotFit ≡ reading.Cells shape → ⊥
-unfolding fitting
-cells-differ e = true≢false (sym (ap fitting e))
+cells-differ e = let z : _≡_ {A = ℕ} 0 1 = cc in omega arith
 
 pub shape-of-cells : {shape other : Shape} → reading.Cells shape ≡ reading.Cells other → shape ≡ other
-unfolding shapeIn
-shape-of-cells e = ap shapeIn e
+shape-of-cells e = cc

@@ -8,7 +8,7 @@ use lib.ListN.{length, getD, length-map}
 use Rattle.container.specs.Contents.{tablesFrom, tablesOf}
 use Rattle.container.specs.Layout.{partCount, partOf}
 use Rattle.container.specs.TablePart.{columnsOf, tableOf}
-use Rattle.memory.specs.Steps.{widthsOf}
+use Rattle.memory.specs.promises.Steps.{widthsOf}
 use Rattle.plan.specs.Table.{noTable}
 
 from-length : (bytes : List ℕ) (part more : ℕ) → length (tablesFrom bytes part more) ≡ more

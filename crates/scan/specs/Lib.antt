@@ -1,2 +1,2 @@
--- SCAN over work memory.
-pub mod Scanning
+-- The step SCAN over work memory. Nothing here is to be believed: `promises` has what the crates promise one another.
+pub mod promises

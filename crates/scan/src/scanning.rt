@@ -5,11 +5,13 @@ ghost use Prim.Native.Nat.{_+_, _^_, _<_};
 ghost use lib.ListN.{length};
 ghost use Rattle.plan.specs.declared.Step.the-variants.{Scan};
 ghost use Rattle.container.specs.Contents.{tablesOf};
-ghost use Rattle.memory.specs.Steps.{DoneWhere};
-ghost use Rattle.scan.specs.Scanning as spec;
+ghost use Rattle.cells.specs.promises.Work.{work};
+ghost use Rattle.memory.specs.promises.Steps.{DoneWhere};
+ghost use Rattle.scan.specs.promises.Scanning as spec;
 use container::Reading;
-use memory::Answer;
+use memory::SLOT;
 use memory::Stack;
+use memory::StepAnswer;
 use memory::Stepped;
 
 // Pushes a table of the container.
@@ -20,23 +22,23 @@ pub fn scan(
     stack: Stack,
     table: usize,
 ) -> Stepped
-    ensures { λ r. ⌜ DoneWhere (spec.scanFits (now (container .entry)) table (length (now (values .entry))) (length (now (labels .entry))) stack) (Scan table) (tablesOf (now (container .entry))) (now (values .entry)) (now (labels .entry)) stack r (now (values .exit)) (now (labels .exit)) ⌝ }
+    ensures { λ r. ⌜ DoneWhere (spec.scanFits (now (container .entry)) table (length (now (values .entry))) (length (now (labels .entry))) stack) (Scan table) (tablesOf (now (container .entry))) (work (now (values .entry)) (now (labels .entry))) stack r (work (now (values .exit)) (now (labels .exit))) ⌝ }
 {
     if !scan_fits(container, values.len(), labels.len(), stack, table) {
         return Stepped {
-            answer: Answer::DoesNotFit,
+            answer: StepAnswer::DoesNotFit,
             stack: stack,
         };
     }
     let slot = stack.depth;
     let part = container::part(container, table + 1);
-    match container::read_cells(part, values, labels, 2048 * slot) {
+    match container::read_cells(part, values, labels, SLOT * slot) {
         Reading::Cells(shape) => Stepped {
-            answer: Answer::Made,
+            answer: StepAnswer::Made,
             stack: memory::with_table(stack, slot, shape.columns, shape.rows),
         },
         Reading::DoesNotFit => Stepped {
-            answer: Answer::DoesNotFit,
+            answer: StepAnswer::DoesNotFit,
             stack: stack,
         },
     }

@@ -1,2 +1,2 @@
--- One step of a plan over work memory.
-pub mod Taking
+-- One step of a plan over work memory. Nothing here is to be believed: `promises` has what the crates promise one another.
+pub mod promises

@@ -1,5 +1,6 @@
 // A step of any kind.
-ghost use Rattle.step.specs.Taking.{Taken};
+ghost use Rattle.cells.specs.promises.Work.{work};
+ghost use Rattle.step.specs.promises.Taking.{Taken};
 use memory::Stack;
 use memory::Stepped;
 use plan::Step;
@@ -12,7 +13,7 @@ pub fn take_step(
     stack: Stack,
     step: Step,
 ) -> Stepped
-    ensures { λ r. ⌜ Taken (now (container .entry)) step (now (values .entry)) (now (labels .entry)) stack r (now (values .exit)) (now (labels .exit)) ⌝ }
+    ensures { λ r. ⌜ Taken (now (container .entry)) step (work (now (values .entry)) (now (labels .entry))) stack r (work (now (values .exit)) (now (labels .exit))) ⌝ }
 {
     match step {
         Step::Scan { table } => scan::scan(container, values, labels, stack, table),

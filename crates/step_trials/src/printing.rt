@@ -1,8 +1,9 @@
 // What an answer is made of.
+use cells::Place;
 use libc::STDOUT_FILENO;
-use memory::Answer;
-use memory::Place;
+use memory::Refusal;
 use memory::Stack;
+use memory::StepAnswer;
 use memory::Stepped;
 use value::range::OVER;
 
@@ -10,16 +11,22 @@ use value::range::OVER;
 pub fn after(values: &[i64], labels: &[u32], stepped: Stepped) {
     let answer = stepped.answer;
     match answer {
-        Answer::Made => live(values, labels, stepped.stack),
-        Answer::NotClear(row, column) => refused(31, row, column),
-        Answer::Forbidden(row, column) => refused(32, row, column),
-        Answer::OperandNotClear(row, column) => refused(33, row, column),
-        Answer::TooMany => refused(34, 256, 0),
-        Answer::DoesNotFit => text(b"does not fit"),
+        StepAnswer::Made => live(values, labels, stepped.stack),
+        StepAnswer::Refused(refusal) => refused(refusal),
+        StepAnswer::DoesNotFit => text(b"does not fit"),
     }
 }
 
-fn refused(number: usize, row: usize, column: usize) {
+fn refused(refusal: Refusal) {
+    match refusal {
+        Refusal::NotClear(row, column) => numbered(31, row, column),
+        Refusal::Forbidden(row, column) => numbered(32, row, column),
+        Refusal::OperandNotClear(row, column) => numbered(33, row, column),
+        Refusal::TooMany => numbered(34, 256, 0),
+    }
+}
+
+fn numbered(number: usize, row: usize, column: usize) {
     decimal(number);
     text(b" at ");
     place_at(row, column);

@@ -5,7 +5,8 @@ use mathlib.Core.List.{List, [], _∷_, _++_}
 use native.Mathlib.Omega.{arith}
 use lib.ListN.{length, getD, take, drop, set, replicate, length-replicate, replicate-append-replicate}
 use Rattle.tally.specs.Zeros.{filled}
-use Rattle.memory.proofs.Written.{Written, one-written}
+use Rattle.cells.specs.promises.Written.{Written}
+use Rattle.cells.proofs.Written.{one-written}
 use Rattle.tally.proofs.Parts.{part-length, part-more}
 
 module _ {A : Type 0} where

@@ -3,17 +3,16 @@ use Prim.Native.Nat.{ℕ, zero, suc, _+_, _-_, _*_, _≤_}
 use mathlib.Core.Path.{_≡_, refl, sym, ap, ap₂, _∙_}
 use mathlib.Core.Bool.{Bool, true, cond, not}
 use mathlib.Core.List.{List, [], _∷_, _++_, map, append-assoc}
-use native.Mathlib.Nat.{zero-mul, le-of-suc-le-suc, not-suc-le-zero}
 use native.Mathlib.Omega.{arith}
 use lib.IntN.{ℤ}
 use lib.ListN.{length, take, drop, replicate, length-append, length-drop}
-use lib.Seq.{take-add, take-at, drop-at, drop-drop}
+use lib.Seq.{take-at, drop-at, drop-drop}
 use borrow.Author.Tests.{le-leb}
-use Rattle.memory.specs.Cells.{cellsOf, flat}
-use Rattle.memory.specs.Search.{tableWithin}
-use Rattle.memory.specs.Stack.{tableAt}
+use Rattle.cells.specs.promises.Cells.{cellsOf, flat}
+use Rattle.cells.specs.promises.Search.{tableWithin}
+use Rattle.cells.specs.promises.Work.{Work, work, cellsIn}
 use Rattle.plan.specs.Evaluate.{overIn, firstOver}
-use Rattle.plan.specs.Table.{Cell, grid, rowsOf}
+use Rattle.plan.specs.Table.{Cell, labelsOf, rowsOf}
 use Rattle.plan.specs.Trace.{Line, stagesLeft}
 use Rattle.plan.specs.Verdict.{orElse, refuseIf}
 use Rattle.tally.specs.Lines.{numbersOf, flatLines, lineFits, withLine}
@@ -21,16 +20,11 @@ use Rattle.tally.specs.Over.{overFrom, firstOverIn}
 use Rattle.tally.specs.Stages.{stagesAt}
 use Rattle.tally.specs.Zeros.{filled}
 use Rattle.value.specs.Range.{inRange}
-use Rattle.memory.proofs.CellLaws.{cells-drop, le-within}
-use Rattle.memory.proofs.Rows.{grid-rows}
+use Rattle.cells.proofs.CellLaws.{cells-drop, values-front, le-within}
+use Rattle.cells.proofs.RowReads.{flat-rows}
+use Rattle.cells.proofs.Rows.{grid-rows}
 
 -- ---- cells and their values
-
-values-take : (n : ℕ) (vs : List ℤ) (ls : List ℕ) → n ≤ length ls → map (λ cell. cell .value) (take n (cellsOf vs ls)) ≡ take n vs
-values-take zero vs ls h = refl
-values-take (suc n) [] ls h = refl
-values-take (suc n) (v ∷ vs) [] h = absurd (not-suc-le-zero h)
-values-take (suc n) (v ∷ vs) (l ∷ ls) h = ap (λ (rest : List ℤ). v ∷ rest) (values-take n vs ls (le-of-suc-le-suc h))
 
 over-cells : (row column : ℕ) (cells : List Cell) → overIn row column cells ≡ overFrom row column (map (λ cell. cell .value) cells)
 over-cells row column [] = refl
@@ -40,40 +34,33 @@ over-rows : (first columns rows : ℕ) (vs : List ℤ) (ls : List ℕ) → rows 
     → firstOver first (rowsOf columns rows (cellsOf vs ls)) ≡ firstOverIn first columns rows vs
 over-rows first columns zero vs ls h = refl
 over-rows first columns (suc rows) vs ls h =
-    ap₂ orElse (over-cells first 0 (take columns (cellsOf vs ls)) ∙ ap (overFrom first 0) (values-take columns vs ls (omega arith)))
+    ap₂ orElse (over-cells first 0 (take columns (cellsOf vs ls)) ∙ ap (overFrom first 0) (values-front (work vs ls) columns (omega arith)))
     (ap (λ (l : List Cell). firstOver (suc first) (rowsOf columns rows l)) (sym (cells-drop columns vs ls))
     ∙ over-rows (suc first) columns rows (drop columns vs) (drop columns ls) (simp length-drop (omega arith)))
-
-flat-rows : (columns rows : ℕ) (cells : List Cell) → flat (rowsOf columns rows cells) ≡ take (rows * columns) cells
-flat-rows columns zero cells = rw zero-mul
-flat-rows columns (suc rows) cells =
-    let e : columns + rows * columns ≡ suc rows * columns = omega arith in
-    ap (λ (rest : List Cell). take columns cells ++ rest) (flat-rows columns rows (drop columns cells)) ∙ sym (take-add columns (rows * columns) cells)
-    ∙ ap (λ (n : ℕ). take n cells) e
 
 -- ---- a table in memory
 
 pub table-fits : (at rows columns n : ℕ) → rows ≤ 256 → columns ≤ 8 → at + rows * columns ≤ n → tableWithin at rows columns n ≡ true
 table-fits at rows columns n r c h = rw (le-leb rows 256 r, le-leb columns 8 c, le-within at (rows * columns) n h)
 
-module _ (values : List ℤ) (labels : List ℕ) (at columns rows : ℕ) where
+module _ (w : Work) (at columns rows : ℕ) where
   -- the stages left on it
-  pub table-stages : tableWithin at rows columns (length labels) ≡ true → at + rows * columns ≤ length values
-      → stagesLeft (grid (tableAt (cellsOf values labels) at columns rows)) ≡ stagesAt labels at rows columns
+  pub table-stages : tableWithin at rows columns (length (w .labels)) ≡ true → at + rows * columns ≤ length (w .values)
+      → stagesLeft (map labelsOf (rowsOf columns rows (drop at (cellsIn w)))) ≡ stagesAt (w .labels) at rows columns
   table-stages e h =
-      rw (e, ← cells-drop at values labels) (ap stagesLeft (grid-rows columns rows (drop at values) (drop at labels) (simp length-drop (omega arith))))
+      rw (e, ← cells-drop at (w .values) (w .labels)) (ap stagesLeft (grid-rows columns rows (drop at (w .values)) (drop at (w .labels)) (simp length-drop (omega arith))))
 
   -- its first OVER cell
-  pub table-over : (first : ℕ) → at + rows * columns ≤ length labels
-      → firstOver first (rowsOf columns rows (drop at (cellsOf values labels))) ≡ firstOverIn first columns rows (drop at values)
-  table-over first h = rw (← cells-drop at values labels) (over-rows first columns rows (drop at values) (drop at labels) (simp length-drop (omega arith)))
+  pub table-over : (first : ℕ) → at + rows * columns ≤ length (w .labels)
+      → firstOver first (rowsOf columns rows (drop at (cellsIn w))) ≡ firstOverIn first columns rows (drop at (w .values))
+  table-over first h = rw (← cells-drop at (w .values) (w .labels)) (over-rows first columns rows (drop at (w .values)) (drop at (w .labels)) (simp length-drop (omega arith)))
 
   -- its values, row by row
-  pub table-values : at + rows * columns ≤ length labels
-      → map (λ cell. cell .value) (flat (tableAt (cellsOf values labels) at columns rows .rows)) ≡ take (rows * columns) (drop at values)
+  pub table-values : at + rows * columns ≤ length (w .labels)
+      → map (λ cell. cell .value) (flat (rowsOf columns rows (drop at (cellsIn w)))) ≡ take (rows * columns) (drop at (w .values))
   table-values h =
-      rw (flat-rows columns rows (drop at (cellsOf values labels)), ← cells-drop at values labels)
-      (values-take (rows * columns) (drop at values) (drop at labels) (simp length-drop (omega arith)))
+      rw (flat-rows columns rows (drop at (cellsIn w)), ← cells-drop at (w .values) (w .labels))
+      (values-front (work (drop at (w .values)) (drop at (w .labels))) (rows * columns) (simp length-drop (omega arith)))
 
 -- ---- trace lines
 

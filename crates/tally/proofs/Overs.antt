@@ -5,12 +5,12 @@ use mathlib.Core.Bool.{Bool, true, false, cond, not}
 use mathlib.Core.List.{List, [], _∷_, map}
 use lib.IntN.{ℤ, pos}
 use lib.ListN.{length, getD, take, drop, length-map, List·getD-map}
-use Rattle.memory.specs.Cells.{gridOf}
+use Rattle.cells.specs.promises.Cells.{gridOf}
 use Rattle.plan.specs.Table.{clear}
 use Rattle.plan.specs.Verdict.{Verdict, fine, orElse, refuseIf, firstNotClear, notClear}
 use Rattle.tally.specs.Over.{overFrom, firstOverIn}
 use Rattle.value.specs.Range.{inRange, least, most}
-use Rattle.memory.proofs.Searching as searching
+use Rattle.cells.proofs.Searching as searching
 
 abbrev every : ℕ → Bool
 every column = true

@@ -9,7 +9,7 @@ use lib.ListN.{length, getD, take, drop}
 use lib.Seq.{take-add}
 use Rattle.label.specs.Stages.{one, stageCount}
 use Rattle.label.specs.Word.{hasH, hasT, hasA, hasN}
-use Rattle.memory.specs.Cells.{gridOf}
+use Rattle.cells.specs.promises.Cells.{gridOf}
 use Rattle.plan.specs.Trace.{stagesIn, stagesLeft}
 use Rattle.tally.proofs.Parts.{part-more}
 

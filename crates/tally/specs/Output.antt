@@ -5,7 +5,7 @@ use mathlib.Core.List.{List, _++_}
 use lib.Dec.{leb}
 use lib.IntN.{ℤ}
 use lib.ListN.{length, take, drop}
-use Rattle.memory.specs.Cells.{within}
+use Rattle.cells.specs.promises.Cells.{within}
 
 -- the values lie within their slice, and the output has room for them
 abbrev pub copies : List ℤ → ℕ → ℕ → List ℤ → Bool

@@ -4,8 +4,7 @@ use mathlib.Core.Bool.{cond, not}
 use mathlib.Core.List.{List, [], _∷_}
 use lib.IntN.{ℤ}
 use lib.ListN.{length, take, drop}
-use Rattle.memory.specs.Search.{tableWithin}
-use Rattle.memory.specs.Steps.{Said, says, unfit}
+use Rattle.cells.specs.promises.Search.{Reply, says, unfit, tableWithin}
 use Rattle.plan.specs.Verdict.{Verdict, fine, orElse, refuseIf}
 use Rattle.value.specs.Range.{inRange}
 
@@ -20,6 +19,6 @@ firstOverIn first columns zero values = fine
 firstOverIn first columns (suc rows) values = orElse (overFrom first 0 (take columns values)) (firstOverIn (suc first) columns rows (drop columns values))
 
 -- the same of the table of so many rows and columns from a place on
-abbrev pub firstOverAt : ℕ → List ℤ → ℕ → ℕ → ℕ → Said
+abbrev pub firstOverAt : ℕ → List ℤ → ℕ → ℕ → ℕ → Reply
 firstOverAt first values at rows columns =
     cond (tableWithin at rows columns (length values)) (says (firstOverIn first columns rows (drop at values))) unfit

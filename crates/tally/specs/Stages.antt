@@ -3,8 +3,8 @@ use Prim.Native.Nat.{ℕ}
 use mathlib.Core.Bool.{cond}
 use mathlib.Core.List.{List}
 use lib.ListN.{length, drop}
-use Rattle.memory.specs.Cells.{gridOf}
-use Rattle.memory.specs.Search.{tableWithin}
+use Rattle.cells.specs.promises.Cells.{gridOf}
+use Rattle.cells.specs.promises.Search.{tableWithin}
 use Rattle.plan.specs.Trace.{stagesLeft}
 
 -- 0 where the table does not lie within the labels

@@ -9,7 +9,7 @@ pub fn copy_out(values: &[i64], at: usize, count: usize, output: &mut [i64]) -> 
     ensures { λ r. ⌜ r ≡ spec.copies (now (values .entry)) at count (now (output .entry)) ⌝ }
     ensures { λ r. ⌜ now (output .exit) ≡ cond r (spec.copied (now (values .entry)) at count (now (output .entry))) (now (output .entry)) ⌝ }
 {
-    if !memory::within(at, count, values.len()) {
+    if !cells::within(at, count, values.len()) {
         return false;
     }
     if output.len() < count {

@@ -1,16 +1,16 @@
 // The first OVER cell of a table.
 ghost use mathlib.Core.Path.{_≡_};
 ghost use Prim.Native.Nat.{ℕ};
-ghost use Rattle.memory.specs.Search.{told};
+ghost use Rattle.cells.specs.promises.Search.{placeSays};
 ghost use Rattle.tally.specs.Over as spec;
-use memory::Place;
+use cells::Place;
 
 // The first cell, row by row and left to right, whose value is out of range, of the table of so many rows and columns from place
 // `at` of the values on.
 pub fn first_over(values: &[i64], at: usize, rows: usize, columns: usize) -> Place
-    ensures { λ r. ⌜ ((first : ℕ) → told 36 first r ≡ spec.firstOverAt first (now (values .entry)) at rows columns) ⌝ }
+    ensures { λ r. ⌜ ((first : ℕ) → placeSays 36 first r ≡ spec.firstOverAt first (now (values .entry)) at rows columns) ⌝ }
 {
-    if !memory::table_within(at, rows, columns, values.len()) {
+    if !cells::table_within(at, rows, columns, values.len()) {
         return Place::DoesNotFit;
     }
     let mut found = Place::Nowhere;

@@ -7,7 +7,7 @@ ghost use Rattle.tally.specs.Stages as spec;
 pub fn stages_left(labels: &[u32], at: usize, rows: usize, columns: usize) -> u32
     ensures { λ r. ⌜ r ≡ spec.stagesAt (now (labels .entry)) at rows columns ⌝ }
 {
-    if !memory::table_within(at, rows, columns, labels.len()) {
+    if !cells::table_within(at, rows, columns, labels.len()) {
         return 0;
     }
     let count = rows * columns;

@@ -5,3 +5,4 @@ pub mod Sizes
 mod Table
 pub mod Machine
 pub mod Laws
+pub mod SentencesProof

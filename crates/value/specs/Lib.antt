@@ -3,3 +3,4 @@ pub mod Range
 pub mod Equality
 pub mod Arithmetic
 pub mod Pattern
+pub mod Sentences

@@ -8,10 +8,10 @@ use borrow.Author.Tests.{le-leb}
 use lib.IntN.{ℤ}
 use lib.ListN.{length}
 use mathlib.Core.List.{List}
-use Rattle.evaluator.specs.Answers.{Told}
-use Rattle.evaluator.specs.Lent.{Lent, enough, lent}
-use Rattle.evaluator.specs.Monitor.{Run, ended, monitor}
-use Rattle.evaluator.proofs.DemandsProof.{answer-same}
+use Rattle.demands.specs.Answers.{Told}
+use Rattle.demands.specs.Lent.{Lent, enough, lent}
+use Rattle.demands.specs.Monitor.{Run, ended, monitor}
+use Rattle.demands.proofs.Runs.{answer-same}
 use borrow.Author.Needs.{needs}
 use Rattle.report.proofs.report.Statement.{statement}
 use Rattle.report.proofs.report.Tie as tie

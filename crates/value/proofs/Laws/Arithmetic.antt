@@ -3,7 +3,7 @@
 use mathlib.Core.Path.{_≡_, refl}
 use mathlib.Core.Logic.{inl}
 use mathlib.Core.Bool.{Bool, true, false, _&&_, and-eq-true-iff}
-use Prim.Native.Nat.{ℕ, _^_, _≤_, _<_}
+use Prim.Native.Nat.{ℕ, _^_, _≤_}
 use native.Mathlib.Nat.{lt-of-le-of-lt, one-le-pow}
 use lib.Dec.{leb, leb→le, lit<}
 use lib.IntN.{ℤ, pos, negsuc, natAbs, _+ℤ_, _-ℤ_, _*ℤ_, +ℤ-one}
@@ -11,6 +11,7 @@ use lib.Signed.{leZ, quotZ, remZ, shrZ, _≤ℤ_, _<ℤ_}
 use borrow.Author.Tests.{le-leb}
 use Rattle.value.specs.Range.{inRange, bothInRange, OVER, settled}
 use Rattle.value.specs.Arithmetic.{plus, minus, cut, floored, band}
+use Rattle.value.specs.Sentences.{TowardZero}
 use Rattle.value.proofs.Integers.{mag-quot, whole, down-below, down-above, rest-small, rest-up, rest-down}
 use Rattle.value.proofs.Sizes.{in-size, size-in}
 use Rattle.value.proofs.Laws.Range.{Result, guarded, settled-result, of-both-in, of-both-out, of-both-result}
@@ -60,15 +61,7 @@ cut-result k v = guarded (leb 1 k && leb k 6 && inRange v) (quotZ v (pos (10 ^ k
         size-in (quotZ v (pos (10 ^ k)))
         (lt-of-le-of-lt (mag-quot v (10 ^ k)) (in-size v (and-eq-true-iff (leb 1 k && leb k 6) (inRange v) .0 e .1)))
 
--- q is v divided by n, toward zero: what is left is smaller than n, and has the sign of v or is 0
-pub record Quotient (n : ℕ) (v q : ℤ) : Type 0 where
-  pub rest : ℤ
-  pub whole : v ≡ pos n *ℤ q +ℤ rest
-  pub small : natAbs rest < n
-  pub up : pos 0 ≤ℤ v → pos 0 ≤ℤ rest
-  pub down : v ≤ℤ pos 0 → rest ≤ℤ pos 0
-
-pub cut-quotient : (k : ℕ) (v : ℤ) → 1 ≤ k → k ≤ 6 → inRange v ≡ true → Quotient (10 ^ k) v (cut k v)
+pub cut-quotient : (k : ℕ) (v : ℤ) → 1 ≤ k → k ≤ 6 → inRange v ≡ true → TowardZero (10 ^ k) v (cut k v)
 unfolding cut
 cut-quotient k v l h e =
     rw (le-leb 1 k l, le-leb k 6 h, e)

@@ -5,6 +5,9 @@ use lib.ListN.{length}
 use borrow.Author.Needs.{needs}
 use Rattle.apply.proofs.Operands.{transform-more}
 use Rattle.apply.proofs.RowMade.{row-made}
+use Rattle.cells.specs.promises.Work.{work}
+use Rattle.cells.proofs.CellLaws.{values-moved, labels-moved}
+use Rattle.cells.proofs.Written.{Moves, up}
 use Rattle.value.proofs.Machine.{back-is}
 use Rattle.apply.proofs.making.make_row.Statement.{statement}
 use Rattle.apply.proofs.making.make_row.Tie as tie
@@ -57,11 +60,17 @@ same-length-2 c = search needs
 
 returns : tie.Need-returns
 returns c =
-    let a = c .before .before .before .before .before .before .before .before .before .before .before .args in
-    let p = c .before .before .before .before .before .before .before .before .before .before .before .pre in
-    rw (back-is _ (c .before .before .before .before .before .before .before .before .new-value .ok))
-    (row-made (now (a .values)) (now (a .labels)) (a .from) (a .columns) (a .column) (a .transform) (omega (arith, p .0)) (omega (arith, p .0)) (p .1 .0) (p .1 .1) (a .to) _ _ _ _ (p .0 .0) (p .0 .1) (p .0 .2) (p .0 .3)
-    (c .before .before .before .move-cells .ensures) (c .before .before .before .before .before .before .before .before .new-value .ensures) (c .before .before .before .before .before .before .new-label .ensures))
+    let m = c .before .before .before in
+    let n = m .before .before .before .before .before in
+    let a = n .before .before .before .args in
+    let p = n .before .before .before .pre in
+    let w = work (now (a .values)) (now (a .labels)) in
+    let v : Moves (a .from) (a .to) (a .columns) (length (now (a .values))) = up (p .0 .0) (omega (arith, p .0)) in
+    let l : Moves (a .from) (a .to) (a .columns) (length (now (a .labels))) = up (p .0 .0) (omega (arith, p .0)) in
+    let e = m .move-cells .ensures in
+    rw (back-is _ (n .new-value .ok), values-moved w v l (e .0) (e .1 .0) (e .1 .1), labels-moved w v l (e .0) (e .1 .0) (e .1 .1))
+    (row-made w (a .from) (a .columns) (a .column) (a .transform) (omega (arith, p .0)) (omega (arith, p .0)) (p .1 .0) (p .1 .1) (a .to) _ _ (p .0 .0) (p .0 .1) (p .0 .2) (p .0 .3)
+    (n .new-value .ensures) (m .before .before .before .new-label .ensures))
 
 pub make-row-spec : {M : Type 1} → statement M
 make-row-spec =

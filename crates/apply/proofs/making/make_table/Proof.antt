@@ -1,10 +1,11 @@
 -- `apply::making::make_table` meets its contract. Assumes nothing.
-use mathlib.Core.Path.{_∙_}
+use denote.Ref.{now}
 use borrow.Author.Needs.{needs}
-use Rattle.apply.proofs.MakeLoop.{table-moves, table-down}
+use Rattle.cells.specs.promises.Work.{work}
+use Rattle.cells.proofs.CellLaws.{values-moved, labels-moved}
+use Rattle.apply.proofs.MakeLoop.{table-values, table-labels, table-down}
 use Rattle.apply.proofs.making.make_table.Statement.{statement}
 use Rattle.apply.proofs.making.make_table.Tie as tie
-use denote.Ref.{now}
 
 make-rows-requires : tie.Need-make-rows-requires
 make-rows-requires c κs = search needs
@@ -26,12 +27,15 @@ same-length-2 c = search needs
 
 returns : tie.Need-returns
 returns c =
-    let start = c .before .before .before .before .before .before .before .before .before .before .before .before .before in
+    let moves = c .before .before .before in
+    let made = moves .before .before .before .before .before .before .before .before in
+    let start = made .before .before .before .before in
     let a = start .args in
-    let put = c .before .before .before .before .before .before .before .before .before .make-rows .ensures in
-    let moves = c .before .before .before .move-cells .ensures in
-    rw (moves .1 .0, moves .1 .1, moves .0 ∙ table-moves (a .at) (a .rows) (a .columns) (a .column) (a .transform) (now (a .values)) (now (a .labels)) (start .pre .0) put)
-    (table-down (a .at) (a .rows) (a .columns) (a .column) (a .transform) (now (a .values)) (now (a .labels)) (start .pre .0) put)
+    let w = work (made .make-rows .last .0) (made .make-rows .last .1 .0) in
+    let v = table-values (a .column) (a .transform) (start .pre .0 .0) (start .pre .0 .1) (made .make-rows .ensures) in
+    let l = table-labels (a .column) (a .transform) (start .pre .0 .0) (start .pre .0 .1) (made .make-rows .ensures) in
+    let m = moves .move-cells .ensures in
+    rw (values-moved w v l (m .0) (m .1 .0) (m .1 .1), labels-moved w v l (m .0) (m .1 .0) (m .1 .1)) (table-down (a .column) (a .transform) (start .pre .0 .0) (start .pre .0 .1) (made .make-rows .ensures))
 
 pub make-table-spec : {M : Type 1} → statement M
 make-table-spec =

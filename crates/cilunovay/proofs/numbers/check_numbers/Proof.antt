@@ -3,7 +3,7 @@ use mathlib.Core.Path.{sym, ap}
 use native.Mathlib.Omega.{arith}
 use Rattle.container.specs.Check.{said}
 use Rattle.container.specs.declared.Check.{Check}
-use Rattle.cilunovay.specs.Numbers.{checkNumbersOf}
+use Rattle.demands.specs.Calls.{checkNumbersOf}
 use borrow.Author.Needs.{needs}
 use Rattle.cilunovay.proofs.numbers.check_numbers.Statement.{statement}
 use Rattle.cilunovay.proofs.numbers.check_numbers.Tie as tie

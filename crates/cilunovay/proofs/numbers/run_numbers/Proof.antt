@@ -3,7 +3,7 @@ use mathlib.Core.Path.{sym, ap}
 use native.Mathlib.Omega.{arith}
 use Rattle.evaluator.specs.Answers.{said}
 use Rattle.evaluator.specs.declared.Answer.{Answer}
-use Rattle.cilunovay.specs.Numbers.{numbersOf}
+use Rattle.demands.specs.Calls.{numbersOf}
 use borrow.Author.Needs.{needs}
 use Rattle.cilunovay.proofs.numbers.run_numbers.Statement.{statement}
 use Rattle.cilunovay.proofs.numbers.run_numbers.Tie as tie

@@ -2,7 +2,7 @@
 use native.Mathlib.Omega.{arith}
 use lib.ListN.{length-set}
 use denote.Ref.{now}
-use Rattle.evaluator.specs.Lent.{lent}
+use Rattle.demands.specs.Lent.{lent}
 use Rattle.cilunovay.proofs.CallMeaning.{run-short, run-long}
 use borrow.Author.Needs.{needs}
 use Rattle.cilunovay.proofs.run.cilunovay_run.Statement.{statement}

@@ -5,7 +5,7 @@ use lib.ListN.{length}
 use denote.Ref.{now}
 use borrow.Author.Tests.{not-true, not-false}
 use Rattle.container.specs.Check.{accepted, checkInput}
-use Rattle.evaluator.specs.Lent.{longEnough}
+use Rattle.demands.specs.Lent.{longEnough}
 use Rattle.evaluator.proofs.RunMeaning.{run-short, run-input, run-begun, lengths, accepted-is}
 use borrow.Author.Needs.{needs}
 use Rattle.evaluator.proofs.monitor.run.Statement.{statement}
@@ -26,7 +26,7 @@ is-accepted-requires : tie.Need-is-accepted-requires
 is-accepted-requires c κs = search needs
 
 input-refusal-requires : tie.Need-input-refusal-requires
-input-refusal-requires c κs = search needs
+input-refusal-requires c κs = sym (c .before .is-accepted .ensures) ∙ not-true _ (c .if2 .taken)
 
 -- the slices are long enough
 long : (c : tie.Else1) → let a = c .before .before .before .before .before .args in longEnough (length (now (a .values))) (length (now (a .labels))) (length (now (a .output))) (length (now (a .trace))) ≡ true

@@ -6,6 +6,7 @@ use Rattle.evaluator.specs.Walk.{stepNumber}
 use Rattle.evaluator.proofs.LineMeaning.{longer}
 use Rattle.evaluator.proofs.OneStep.{done-so, some-made, still-ready, line-made, line-none}
 use borrow.Author.Needs.{needs}
+use Rattle.cells.specs.promises.Work.{room}
 use Rattle.evaluator.proofs.steps.finish_step.Statement.{statement}
 use Rattle.evaluator.proofs.steps.finish_step.Tie as tie
 
@@ -29,7 +30,7 @@ write-step-requires c κs =
     let e = known (t .before .before .before) in
     let d = t .take-step .ensures in
     let m = sym (c .before .before .before .is-made .ensures) ∙ c .before .before .if1 .taken in
-    (some-made (s .args .index) (s .pre .2) e d m, s .pre .1, longer 8192 (omega arith) (still-ready (s .args .index) (s .pre .2) e d m))
+    (some-made (s .args .index) (s .pre .2) e d m, s .pre .1, longer room (omega arith) (still-ready (s .args .index) (s .pre .2) e d m))
 
 same-length : tie.Need-same-length
 same-length c = search needs

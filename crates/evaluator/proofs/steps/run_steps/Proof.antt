@@ -1,5 +1,6 @@
 -- `evaluator::steps::run_steps` meets its contract. Assumes nothing.
 use borrow.Author.Needs.{needs}
+use Rattle.cells.specs.promises.Work.{work}
 use Prim.Native.Nat.{_-_, _≤_, _<_}
 use mathlib.Core.Path.{_≡_, refl, sym, _∙_}
 use native.Mathlib.Omega.{arith}
@@ -14,7 +15,7 @@ use Rattle.evaluator.proofs.steps.run_steps.Tie as tie
 
 abbrev Inv-loop : tie.InvT-loop
 Inv-loop container values₀ labels₀ trace₀ count stack₀ index₀ values labels trace stack index =
-    (index ≤ count) × (count ≡ length (planOf container)) × Going container values₀ labels₀ trace₀ index values labels trace stack × (length trace ≡ length trace₀)
+    (index ≤ count) × (count ≡ length (planOf container)) × Going container (work values₀ labels₀) trace₀ index (work values labels) trace stack × (length trace ≡ length trace₀)
 
 abbrev μ-loop : tie.MeasureT-loop
 μ-loop container values₀ labels₀ trace₀ count stack₀ index₀ values labels trace stack index = count - index

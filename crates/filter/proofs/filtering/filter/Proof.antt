@@ -1,90 +1,103 @@
 -- `filter::filtering::filter` meets its contract. Assumes nothing.
-use mathlib.Core.Path.{sym, ap, _∙_}
+use mathlib.Core.Path.{_≡_, sym, ap, _∙_}
+use mathlib.Core.Bool.{true}
 use mathlib.Core.List.{[]}
 use native.Mathlib.Omega.{arith}
+use lib.ListN.{length}
+use denote.Ref.{now}
 use borrow.Author.Needs.{needs}
-use borrow.Author.Tests.{not-true, not-false}
-use Rattle.memory.specs.Search.{told}
-use Rattle.memory.specs.Steps.{widthsOf}
+use Rattle.cells.specs.promises.Search.{placeSays}
+use Rattle.cells.specs.promises.Work.{work}
+use Rattle.memory.specs.promises.Stack.{widthsTo}
+use Rattle.memory.specs.promises.Steps.{fits}
+use Rattle.plan.specs.Widths.{columnsExist, madeColumns}
 use Rattle.plan.specs.declared.Step.the-variants.{Filter}
-use Rattle.memory.proofs.Finish.{unfit-done}
-use Rattle.memory.proofs.TopTable.{top-inside}
-use Rattle.filter.proofs.FilterMeaning.{filter-parts, filter-refused, filter-fits-still, filter-made}
+use Rattle.memory.proofs.Finish.{unfit-done, columns-fit, columns-misfit}
+use Rattle.filter.proofs.FilterMeaning.{FilterFits, filter-parts, filter-refused, filter-fits-still, filter-made}
 use Rattle.filter.proofs.Widths.{operand-more}
 use Rattle.filter.proofs.filtering.filter.Statement.{statement}
 use Rattle.filter.proofs.filtering.filter.Tie as tie
-use denote.Ref.{now}
 
-filter-fits-requires : tie.Need-filter-fits-requires
-filter-fits-requires c κs = search needs
+-- the arguments fit
+abbrev start : tie.After-live-table → tie.Start
+start c = c .before .before .before .before .before .before
+
+fitted : (c : tie.After-live-table) → let a = start c .args in
+    (fits (Filter (a .column) (a .comparison) (a .operand)) [] (length (now (a .values))) (length (now (a .labels))) (a .stack) ≡ true)
+    × (c .before .before .columns .given .0 .0 ≡ madeColumns (Filter (a .column) (a .comparison) (a .operand)) [] (widthsTo (a .stack) (a .stack .depth)))
+fitted c = columns-fit _ _ (sym (c .before .before .before .before .fit .ensures) ∙ c .before .before .columns .given .1)
+
+parts : (c : tie.After-live-table) → let a = start c .args in
+    FilterFits (a .column) (a .operand) (length (now (a .values))) (length (now (a .labels))) (a .stack) (c .live-table .result) (c .before .before .columns .given .0 .0)
+parts c = let a = start c .args in filter-parts (a .column) (a .comparison) (a .operand) [] _ _ (a .stack) _ _ (c .live-table .ensures) (fitted c .0) (fitted c .1)
+
+-- the search for a label
+abbrev searched : tie.After-not-clear → tie.After-live-table
+searched c = c .before .before .before
+
+fit-requires : tie.Need-fit-requires
+fit-requires c κs = search needs
+
+enum-known-columns : tie.Need-enum-known-columns
+enum-known-columns c = search needs
+
+enum-told : tie.Need-enum-told
+enum-told c = search needs
 
 returns : tie.Need-returns
-returns c = λ tables. unfit-done (Filter (c .before .before .before .args .column) (c .before .before .before .args .comparison) (c .before .before .before .args .operand)) tables _ _ _ (sym (c .before .filter-fits .ensures _ (widthsOf tables)) ∙ not-true _ (c .if1 .taken))
+unfolding columnsExist madeColumns
+returns c =
+    let a = c .before .before .before .before .args in
+    λ tables. unfit-done (Filter (a .column) (a .comparison) (a .operand)) tables _ _ (columns-misfit _ _ (sym (c .before .before .fit .ensures) ∙ c .enum-told .given .1))
 
-sub-slot : tie.Need-sub-slot
-sub-slot c = (filter-parts _ (c .before .before .before .before .args .comparison) _ [] _ _ _ (sym (c .before .before .filter-fits .ensures (c .before .before .before .before .args .comparison) []) ∙ not-false _ (c .before .if1 .left))) .some
-
-mul-rows : tie.Need-mul-rows
-mul-rows c = omega (arith, (filter-parts _ (c .before .before .before .before .before .before .args .comparison) _ [] _ _ _ (sym (c .before .before .before .before .filter-fits .ensures (c .before .before .before .before .before .before .args .comparison) []) ∙ not-false _ (c .before .before .before .if1 .left))) .is-ready .depth)
-
-array-read-rows : tie.Need-array-read-rows
-array-read-rows c = omega (arith, (filter-parts _ (c .before .before .before .before .before .before .args .comparison) _ [] _ _ _ (sym (c .before .before .before .before .filter-fits .ensures (c .before .before .before .before .before .before .args .comparison) []) ∙ not-false _ (c .before .before .before .if1 .left))) .is-ready .depth)
-
-mul-columns : tie.Need-mul-columns
-mul-columns c = omega (arith, (filter-parts _ (c .before .before .before .before .before .before .args .comparison) _ [] _ _ _ (sym (c .before .before .before .before .filter-fits .ensures (c .before .before .before .before .before .before .args .comparison) []) ∙ not-false _ (c .before .before .before .if1 .left))) .is-ready .depth)
-
-array-read-columns : tie.Need-array-read-columns
-array-read-columns c = omega (arith, (filter-parts _ (c .before .before .before .before .before .before .args .comparison) _ [] _ _ _ (sym (c .before .before .before .before .filter-fits .ensures (c .before .before .before .before .before .before .args .comparison) []) ∙ not-false _ (c .before .before .before .if1 .left))) .is-ready .depth)
-
-mul-at : tie.Need-mul-at
-mul-at c = omega (arith, (filter-parts _ (c .before .before .before .before .before .before .args .comparison) _ [] _ _ _ (sym (c .before .before .before .before .filter-fits .ensures (c .before .before .before .before .before .before .args .comparison) []) ∙ not-false _ (c .before .before .before .if1 .left))) .is-ready .depth)
+live-table-requires : tie.Need-live-table-requires
+live-table-requires c κs = search needs
 
 read-by-requires : tie.Need-read-by-requires
-read-by-requires c κs =
-    let a = c .before .before .before .before .before .before .before .args in
-    let parts = filter-parts _ (a .comparison) _ [] _ _ _ (sym (c .before .before .before .before .before .filter-fits .ensures (a .comparison) []) ∙ not-false _ (c .before .before .before .before .if1 .left)) in
-    (omega (arith, parts .below, parts .narrow), operand-more (a .operand) _ 8 (parts .narrow) (parts .operand-below))
+read-by-requires c κs = let p = parts (c .before) in (omega (arith, p .below, p .inside-is .few-columns), operand-more (start (c .before) .args .operand) _ 8 (p .inside-is .few-columns) (p .operand-below))
 
 not-clear-requires : tie.Need-not-clear-requires
 not-clear-requires c κs = search needs
 
-enum-known-found : tie.Need-enum-known-found
-enum-known-found c = search needs
+enum-known-row : tie.Need-enum-known-row
+enum-known-row c = search needs
+
+enum-told-2 : tie.Need-enum-told-2
+enum-told-2 c = search needs
+
+enum-told-3 : tie.Need-enum-told-3
+enum-told-3 c = search needs
+
+filter-rows-requires : tie.Need-filter-rows-requires
+filter-rows-requires c κs = let p = parts (searched (c .before .before .before .before)) in (p .inside-is, (p .below, p .operand-below))
+
+with-table-requires : tie.Need-with-table-requires
+with-table-requires c κs = search needs
 
 same-length : tie.Need-same-length
 same-length c = search needs
 
 returns-2 : tie.Need-returns-2
+unfolding columnsExist madeColumns
 returns-2 c =
-    let a = c .before .before .before .before .before .before .before .before .before .before .before .before .args in
-    let parts = filter-parts _ (c .before .before .before .before .before .before .before .before .before .before .before .before .args .comparison) _ [] _ _ _ (sym (c .before .before .before .before .before .before .before .before .before .before .filter-fits .ensures (c .before .before .before .before .before .before .before .before .before .before .before .before .args .comparison) []) ∙ not-false _ (c .before .before .before .before .before .before .before .before .before .if1 .left)) in
-    λ tables. filter-refused (a .column) (a .comparison) (a .operand) tables (now (a .values)) (now (a .labels)) (a .stack) (parts .is-ready) (parts .some) (sym (c .before .before .before .before .before .before .before .before .before .before .filter-fits .ensures (c .before .before .before .before .before .before .before .before .before .before .before .before .args .comparison) (widthsOf tables)) ∙ not-false _ (c .before .before .before .before .before .before .before .before .before .if1 .left))
-    _ (c .before .before .before .before .read-by .ensures) _ _ (ap (told 31 0) (sym (c .before .found .given .1)) ∙ c .before .before .before .not-clear .ensures 31 0)
-
-enum-told : tie.Need-enum-told
-enum-told c = search needs
+    let refused = c in
+    let n = refused .before .before .before in
+    let l = searched n in
+    let a = start l .args in
+    λ tables. filter-refused (a .column) (a .comparison) (a .operand) tables (work (now (a .values)) (now (a .labels))) (a .stack) (fitted l .0) (parts l)
+    _ (n .before .read-by .ensures) _ _ (ap (placeSays 31 0) (sym (refused .before .row .given .1)) ∙ n .not-clear .ensures 31 0)
 
 same-length-2 : tie.Need-same-length-2
 same-length-2 c = search needs
 
 returns-3 : tie.Need-returns-3
+unfolding columnsExist madeColumns
 returns-3 c =
-    let a = c .before .before .before .before .before .before .before .before .before .before .before .args in
-    let parts = filter-parts _ (c .before .before .before .before .before .before .before .before .before .before .before .args .comparison) _ [] _ _ _ (sym (c .before .before .before .before .before .before .before .before .before .filter-fits .ensures (c .before .before .before .before .before .before .before .before .before .before .before .args .comparison) []) ∙ not-false _ (c .before .before .before .before .before .before .before .before .if1 .left)) in
-    λ tables. absurd (filter-fits-still (a .column) (a .comparison) (a .operand) tables (now (a .values)) (now (a .labels)) (a .stack) (parts .is-ready) (parts .some) (sym (c .before .before .before .before .before .before .before .before .before .filter-fits .ensures (c .before .before .before .before .before .before .before .before .before .before .before .args .comparison) (widthsOf tables)) ∙ not-false _ (c .before .before .before .before .before .before .before .before .if1 .left))
-    _ (c .before .before .before .read-by .ensures) (ap (told 31 0) (sym (c .enum-told .given .1)) ∙ c .before .before .not-clear .ensures 31 0))
-
-enum-told-2 : tie.Need-enum-told-2
-enum-told-2 c = search needs
-
-filter-rows-requires : tie.Need-filter-rows-requires
-filter-rows-requires c κs =
-    let a = c .before .before .before .before .before .before .before .before .before .before .before .before .before .args in
-    let parts = filter-parts _ (a .comparison) _ [] _ _ _ (sym (c .before .before .before .before .before .before .before .before .before .before .before .filter-fits .ensures (a .comparison) []) ∙ not-false _ (c .before .before .before .before .before .before .before .before .before .before .if1 .left)) in
-    (top-inside (now (a .values)) (now (a .labels)) _ (parts .is-ready) (parts .some), (parts .below, parts .operand-below))
-
-with-table-requires : tie.Need-with-table-requires
-with-table-requires c κs = search needs
+    let n = c .before .before in
+    let l = searched n in
+    let a = start l .args in
+    λ tables. absurd (filter-fits-still (a .column) (a .comparison) (a .operand) tables (work (now (a .values)) (now (a .labels))) (a .stack) (fitted l .0) (parts l)
+    _ (n .before .read-by .ensures) (ap (placeSays 31 0) (sym (c .enum-told2 .given .1)) ∙ n .not-clear .ensures 31 0))
 
 same-length-3 : tie.Need-same-length-3
 same-length-3 c = search needs
@@ -93,36 +106,35 @@ same-length-4 : tie.Need-same-length-4
 same-length-4 c = search needs
 
 returns-4 : tie.Need-returns-4
+unfolding columnsExist madeColumns
 returns-4 c =
-    let a = c .before .before .before .before .before .before .before .before .before .before .before .before .before .before .before .before .before .before .args in
-    let parts = filter-parts _ (c .before .before .before .before .before .before .before .before .before .before .before .before .before .before .before .before .before .before .args .comparison) _ [] _ _ _ (sym (c .before .before .before .before .before .before .before .before .before .before .before .before .before .before .before .before .filter-fits .ensures (c .before .before .before .before .before .before .before .before .before .before .before .before .before .before .before .before .before .before .args .comparison) []) ∙ not-false _ (c .before .before .before .before .before .before .before .before .before .before .before .before .before .before .before .if1 .left)) in
-    λ tables. filter-made (a .column) (a .comparison) (a .operand) tables (now (a .values)) (now (a .labels)) (a .stack) (parts .is-ready) (parts .some) (sym (c .before .before .before .before .before .before .before .before .before .before .before .before .before .before .before .before .filter-fits .ensures (c .before .before .before .before .before .before .before .before .before .before .before .before .before .before .before .before .before .before .args .comparison) (widthsOf tables)) ∙ not-false _ (c .before .before .before .before .before .before .before .before .before .before .before .before .before .before .before .if1 .left))
-    _ (c .before .before .before .before .before .before .before .before .before .before .read-by .ensures) _ _ _ _ (ap (told 31 0) (sym (c .before .before .before .before .before .before .before .enum-told2 .given .1)) ∙ c .before .before .before .before .before .before .before .before .before .not-clear .ensures 31 0)
-    (c .before .before .before .before .filter-rows .ensures) (c .with-table .ensures)
+    let f = c .before .before .before .before in
+    let n = f .before .before .before .before .before in
+    let l = searched n in
+    let a = start l .args in
+    λ tables. rw (c .with-table .ensures) (filter-made (a .column) (a .comparison) (a .operand) tables (work (now (a .values)) (now (a .labels))) (a .stack) (fitted l .0) (parts l)
+    _ (n .before .read-by .ensures) _ (ap (placeSays 31 0) (sym (f .before .before .before .enum-told3 .given .1)) ∙ n .not-clear .ensures 31 0) (f .filter-rows .ensures))
 
 pub filter-spec : {M : Type 1} → statement M
 filter-spec =
     tie.close
     (tie.spec
-    filter-fits-requires
+    fit-requires
+    enum-known-columns
+    enum-told
     returns
-    sub-slot
-    mul-rows
-    array-read-rows
-    mul-columns
-    array-read-columns
-    mul-at
+    live-table-requires
     read-by-requires
     not-clear-requires
-    enum-known-found
-    same-length
-    returns-2
-    enum-told
-    same-length-2
-    returns-3
+    enum-known-row
     enum-told-2
+    enum-told-3
     filter-rows-requires
     with-table-requires
+    same-length
+    returns-2
+    same-length-2
+    returns-3
     same-length-3
     same-length-4
     returns-4)

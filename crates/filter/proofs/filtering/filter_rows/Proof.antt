@@ -1,102 +1,96 @@
 -- `filter::filtering::filter_rows` meets its contract. Assumes nothing.
 use Prim.Native.Nat.{_+_, _-_}
-use mathlib.Core.Path.{_≡_, sym, _∙_}
+use mathlib.Core.Path.{_≡_}
 use mathlib.Core.Logic.{⊎-elim}
 use native.Mathlib.Omega.{arith}
 use lib.ListN.{length}
 use borrow.Author.Needs.{needs}
+use Rattle.cells.specs.promises.Work.{work}
 use Rattle.plan.specs.Filter.{passes}
-use Rattle.filter.proofs.FilterLoop.{places, values-reach, test-is, row-kept, row-skipped, row-moves, Filtering, filter-begins}
+use Rattle.cells.proofs.CellLaws.{values-moved, labels-moved}
+use Rattle.filter.proofs.FilterLoop.{places, values-reach, in-values, in-labels, passed, failed, Filtering, filter-begins}
 use Rattle.filter.proofs.Widths.{operand-more}
 use Rattle.filter.proofs.filtering.filter_rows.Statement.{statement}
 use Rattle.filter.proofs.filtering.filter_rows.Tie as tie
 
 abbrev Inv-loop : tie.InvT-loop
-Inv-loop values₀ labels₀ at rows columns column comparison operand kept₀ from₀ to₀ row₀ values labels kept from to row = Filtering (passes column comparison operand) at rows columns values₀ labels₀ values labels kept from to row
+Inv-loop values₀ labels₀ top column comparison operand kept₀ from₀ to₀ row₀ values labels kept from to row =
+    Filtering (passes column comparison operand) top (work values₀ labels₀) (work values labels) kept from to row
 
 abbrev μ-loop : tie.MeasureT-loop
-μ-loop values₀ labels₀ at rows columns column comparison operand kept₀ from₀ to₀ row₀ values labels kept from to row = rows - row
-
-joined : (c : tie.Joined1 Inv-loop μ-loop)
-    → let a = c .before .before .before .before .before .before .args in let l = c .before .before .before .before .loop in
-    Filtering (passes (a .column) (a .comparison) (a .operand)) (a .at) (a .rows) (a .columns) (a .values .now) (a .labels .now) (c .if1 .values) (c .if1 .labels) (c .if1 .kept)
-    (l .from + a .columns) (c .if1 .to) (l .row + 1)
-joined c =
-    let start = c .before .before .before .before .before .before in
-    let a = start .args in
-    let l = c .before .before .before .before .loop in
-    let i = start .pre .0 in
-    let h = c .before .before .before .loop-test .taken in
-    let p = passes (a .column) (a .comparison) (a .operand) in
-    let test = test-is (a .at) (a .rows) (a .columns) (a .column) (a .comparison) (a .operand) (a .values .now) (a .labels .now) i (l .inv) h (start .pre .1 .0) (start .pre .1 .1)
-    ∙ sym (c .before .passes .ensures) in
-    ⊎-elim
-    (λ w.
-    let moves = w .3 .ensures .0 ∙ row-moves p (a .at) (a .rows) (a .columns) (a .values .now) (a .labels .now) i (l .inv) h in
-    rw (w .7, w .8, w .9, w .10, w .3 .ensures .1 .0, w .3 .ensures .1 .1, moves) (row-kept p (a .at) (a .rows) (a .columns) (a .values .now) (a .labels .now) i (l .inv) h (test ∙ w .0 .taken)))
-    (λ w. rw (w .1, w .2, w .3, w .4) (row-skipped p (a .at) (a .rows) (a .columns) (a .values .now) (a .labels .now) i (l .inv) h (test ∙ w .0 .left)))
-    (c .if1 .came)
+μ-loop values₀ labels₀ top column comparison operand kept₀ from₀ to₀ row₀ values labels kept from to row = top .rows - row
 
 loop-holds : tie.Need-loop-holds Inv-loop μ-loop
-loop-holds c = filter-begins _ _ _ _ _ _ (c .before .pre .0)
+loop-holds c = filter-begins (c .before .pre .0)
+
+-- the row that was tested for being one of the table, the loop's state before it, and what the function asks
+abbrev turn : tie.Then1 Inv-loop μ-loop → tie.At-loop Inv-loop μ-loop
+turn c = c .before .before
+
+abbrev start : tie.Then1 Inv-loop μ-loop → tie.Start Inv-loop μ-loop
+start c = turn c .before .before
 
 passes-requires : tie.Need-passes-requires Inv-loop μ-loop
 passes-requires c κs =
-    let start = c .before .before .before .before in
-    let a = start .args in
-    let l = c .before .before .loop in
-    let reach = values-reach (passes (a .column) (a .comparison) (a .operand)) (a .at) (a .rows) (a .columns) (a .values .now) (a .labels .now) (start .pre .0) (l .inv) (c .before .loop-test .taken) in
-    (omega (arith, reach, start .pre .1 .0), operand-more (a .operand) (a .columns) (length (l .values) - l .from) (omega (arith, reach)) (start .pre .1 .1))
+    let t = c .before in
+    let l = turn t .loop in
+    let reach = values-reach (start t .pre .0) (l .inv) (t .if1 .taken) in
+    (omega (arith, reach, start t .pre .1 .0), operand-more (start t .args .operand) _ (length (l .values) - l .from) (omega (arith, reach)) (start t .pre .1 .1))
 
 move-cells-requires : tie.Need-move-cells-requires Inv-loop μ-loop
 move-cells-requires c κs = search needs
 
+-- the row of a turn, from where its cells were moved
+abbrev moved : tie.After-struct-known2 Inv-loop μ-loop → tie.Then1 Inv-loop μ-loop
+moved c = c .before .before .before .before .before .before .before .before .before .before
+
 add-to : tie.Need-add-to Inv-loop μ-loop
-add-to c =
-    let start = c .before .before .before .before .before .before .before .before .before .before .before .before in
-    let a = start .args in
-    let l = c .before .before .before .before .before .before .before .before .before .before .loop in
-    omega (arith, places (passes (a .column) (a .comparison) (a .operand)) (a .at) (a .rows) (a .columns) (a .values .now) (a .labels .now) (start .pre .0) (l .inv) (c .before .before .before .before .before .before .before .before .before .loop-test .taken))
+add-to c = let t = moved c in omega (arith, places (start t .pre .0) (turn t .loop .inv) (t .if1 .taken))
 
 add-kept : tie.Need-add-kept Inv-loop μ-loop
-add-kept c =
-    let start = c .before .before .before .before .before .before .before .before .before .before .before .before in
-    let a = start .args in
-    let l = c .before .before .before .before .before .before .before .before .before .before .loop in
-    omega (arith, places (passes (a .column) (a .comparison) (a .operand)) (a .at) (a .rows) (a .columns) (a .values .now) (a .labels .now) (start .pre .0) (l .inv) (c .before .before .before .before .before .before .before .before .before .loop-test .taken))
+add-kept c = let t = moved c in omega (arith, places (start t .pre .0) (turn t .loop .inv) (t .if1 .taken))
+
+-- from the end of a turn
+abbrev ended : tie.After-struct-known3 Inv-loop μ-loop → tie.Then1 Inv-loop μ-loop
+ended c = c .before .before .before .before
 
 add-from : tie.Need-add-from Inv-loop μ-loop
-add-from c =
-    let start = c .before .before .before .before .before .before in
-    let a = start .args in
-    let l = c .before .before .before .before .loop in
-    omega (arith, places (passes (a .column) (a .comparison) (a .operand)) (a .at) (a .rows) (a .columns) (a .values .now) (a .labels .now) (start .pre .0) (l .inv) (c .before .before .before .loop-test .taken))
+add-from c = let t = ended c in omega (arith, places (start t .pre .0) (turn t .loop .inv) (t .if1 .taken))
 
 add-row : tie.Need-add-row Inv-loop μ-loop
-add-row c =
-    let start = c .before .before .before .before .before .before in
-    let a = start .args in
-    let l = c .before .before .before .before .loop in
-    omega (arith, places (passes (a .column) (a .comparison) (a .operand)) (a .at) (a .rows) (a .columns) (a .values .now) (a .labels .now) (start .pre .0) (l .inv) (c .before .before .before .loop-test .taken))
+add-row c = let t = ended c in omega (arith, places (start t .pre .0) (turn t .loop .inv) (t .if1 .taken))
 
 loop-less : tie.Need-loop-less Inv-loop μ-loop
-loop-less c = omega arith
+loop-less c = omega (arith, ended c .if1 .taken)
 
 loop-again : tie.Need-loop-again Inv-loop μ-loop
-loop-again c = joined c
+loop-again c =
+    let t = ended c in
+    let a = start t .args in
+    let l = turn t .loop in
+    let i = start t .pre .0 in
+    let h = t .if1 .taken in
+    let w = work (l .values) (l .labels) in
+    let answer = c .before .before .passes .ensures in
+    ⊎-elim
+    (λ m.
+    let moves = m .3 .ensures in
+    let v = values-moved w (in-values i (l .inv) h) (in-labels i (l .inv) h) (moves .0) (moves .1 .0) (moves .1 .1) in
+    let k = labels-moved w (in-values i (l .inv) h) (in-labels i (l .inv) h) (moves .0) (moves .1 .0) (moves .1 .1) in
+    rw (m .8, m .9, m .10, m .11, v, k) (passed (a .column) (a .comparison) (a .operand) i (l .inv) h (start t .pre .1 .0) (start t .pre .1 .1) answer (m .0 .taken)))
+    (λ m. rw (m .1, m .2, m .3, m .4) (failed (a .column) (a .comparison) (a .operand) i (l .inv) h (start t .pre .1 .0) (start t .pre .1 .1) answer (m .0 .left)))
+    (c .before .if2 .came)
 
 same-length : tie.Need-same-length Inv-loop μ-loop
-same-length c = c .before .loop .inv .same .as-many-values
+same-length c = c .before .before .loop .inv .same .as-many-values
 
 same-length-2 : tie.Need-same-length-2 Inv-loop μ-loop
-same-length-2 c = c .before .loop .inv .same .as-many-labels
+same-length-2 c = c .before .before .loop .inv .same .as-many-labels
 
 returns : tie.Need-returns Inv-loop μ-loop
 returns c =
-    let start = c .before .before .before in
-    let a = start .args in
-    let l = c .before .loop in
-    let e : l .row ≡ a .rows = omega (arith, l .inv .row-le) in
+    let l = c .before .before .loop in
+    let e : l .row ≡ c .before .before .before .before .args .top .rows = omega (arith, l .inv .row-le, c .if1 .left) in
     record {
       counted = rw (← e) (l .inv .kept-is);
       written = rw (← e) (l .inv .written);

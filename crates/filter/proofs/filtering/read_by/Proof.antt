@@ -1,7 +1,7 @@
 -- `filter::filtering::read_by` meets its contract. Assumes nothing.
 use native.Mathlib.Omega.{arith}
 use borrow.Author.Needs.{needs}
-use Rattle.memory.proofs.Masks.{one-column, two-columns}
+use Rattle.cells.proofs.Masks.{one-column, two-columns}
 use Rattle.filter.proofs.Widths.{column-below}
 use Rattle.filter.proofs.filtering.read_by.Statement.{statement}
 use Rattle.filter.proofs.filtering.read_by.Tie as tie

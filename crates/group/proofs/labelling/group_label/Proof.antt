@@ -6,11 +6,11 @@ use native.Mathlib.Omega.{arith}
 use lib.IntN.{ℤ}
 use lib.ListN.{length, getD, drop}
 use borrow.Author.Needs.{needs}
-use Rattle.group.specs.Members.{rowAt, chosen, Allowed, Chain, Onward}
-use Rattle.group.specs.Summaries.{labelsIn}
+use Rattle.group.specs.promises.Members.{rowAt, chosen, Allowed, Chain, Onward}
+use Rattle.group.specs.promises.Summaries.{labelsIn}
 use Rattle.label.specs.Composition.{composed}
 use Rattle.label.specs.Discharge.{afterA}
-use Rattle.memory.specs.Cells.{cellsOf}
+use Rattle.cells.specs.promises.Cells.{cellsOf}
 use Rattle.plan.specs.Group.{composedAfter}
 use Rattle.plan.specs.Sense.{Each}
 use Rattle.plan.specs.Table.{rowsOf, cellAt}
@@ -18,7 +18,8 @@ use Rattle.group.proofs.Choosing.{next-led, next-left, member-next, eac
 use Rattle.group.proofs.Labels.{Composing, none-composed, label-taken, few-codes}
 use Rattle.group.proofs.Leading.{rows-next}
 use Rattle.group.proofs.Reading.{label-read}
-use Rattle.group.proofs.Walking.{Walking, walk-from, walk-to, inside, inside-other}
+use Rattle.group.proofs.Walking.{walk-from, walk-to, inside-other}
+use Rattle.cells.proofs.Columns.{Walking, inside}
 use Rattle.label.proofs.Laws.{zero-well-formed}
 use Rattle.group.proofs.labelling.group_label.Statement.{statement}
 use Rattle.group.proofs.labelling.group_label.Tie as tie
@@ -33,8 +34,8 @@ abbrev μ-loop : tie.MeasureT-loop
 first : (c : tie.Start Inv-loop μ-loop) → let g = c .args .g in g .at + c .args .row * g .columns + g .columns ≤ length (c .args .labels .now)
 first c = inside (walk-from (c .args .g) (length (c .args .labels .now)) (c .args .row) (c .pre .0) (omega arith)) (c .pre .1 .0)
 
-code-of-requires : tie.Need-code-of-requires Inv-loop μ-loop
-code-of-requires c κs = search needs
+aggregate-code-requires : tie.Need-aggregate-code-requires Inv-loop μ-loop
+aggregate-code-requires c κs = search needs
 
 mul-first : tie.Need-mul-first Inv-loop μ-loop
 mul-first c = omega (arith, first (c .before .before))
@@ -66,7 +67,7 @@ loop-holds c =
     let a = s .args in
     let p = s .pre in
     let h = p .1 .0 in
-    let code = c .before .before .before .code-of in
+    let code = c .before .before .before .aggregate-code in
     let few : code .result < 5 = rw (code .ensures) (few-codes (a .g .aggregate)) in
     let place = a .g .at + a .row * a .g .columns in
     let k : a .g .at + (a .row + 1) * a .g .columns ≡ place + a .g .columns = omega arith in
@@ -139,7 +140,7 @@ returns c =
     let l = c .before .loop in
     λ leaders values chain e q allowed.
     let z : s .args .g .rows - l .other ≡ 0 = omega arith in
-    rw (← c .before .before .before .before .before .code-of .ensures) (sym (rw z at (l .inv .4 leaders values chain e (q .within) allowed .1 .rest)))
+    rw (← c .before .before .before .before .before .aggregate-code .ensures) (sym (rw z at (l .inv .4 leaders values chain e (q .within) allowed .1 .rest)))
 
 pub group-label-spec : {M : Type 1} → statement M
 group-label-spec =
@@ -147,7 +148,7 @@ group-label-spec =
     (tie.spec
     Inv-loop
     μ-loop
-    code-of-requires
+    aggregate-code-requires
     mul-first
     add-first
     add-with-label

@@ -1,16 +1,16 @@
 -- `group::labelling::with_label` meets its contract: labels that allow it are discharged and composed, and no other answer comes. Assumes nothing.
 use Prim.Native.Nat.{_<_}
-use mathlib.Core.Path.{_≡_, refl}
+use mathlib.Core.Path.{_≡_}
 use mathlib.Core.Bool.{true}
 use mathlib.Core.List.{[], _∷_}
 use borrow.Author.Needs.{needs}
-use Rattle.group.specs.Members.{AllowedLabel}
+use types.Run.{miss}
+use Rattle.group.specs.promises.Members.{AllowedLabel}
 use Rattle.label.specs.Composition.{composed}
 use Rattle.label.specs.Discharge.{afterA}
 use Rattle.label.specs.WellFormed.{wellFormed}
 use Rattle.label.specs.declared.Answer.the-variants.{Label}
 use Rattle.group.proofs.Labels.{word-of, discharged, composes}
-use Rattle.group.proofs.Tags.{not-first}
 use Rattle.label.proofs.Laws.{after-A-well-formed}
 use Rattle.group.proofs.labelling.with_label.Statement.{statement}
 use Rattle.group.proofs.labelling.with_label.Tie as tie
@@ -34,7 +34,7 @@ returns : tie.Need-returns
 returns c = λ a n h.
     let s = c .before .before .args in
     let r = c .before .discharge-aggregate in
-    absurd (not-first (1 ∷ 2 ∷ 3 ∷ []) refl (rw (discharged (r .result) (s .next) (s .code) (s .size) (r .ensures) n h) at (c .match .keys2)))
+    absurd (miss (1 ∷ 2 ∷ 3 ∷ []) 0 tt (rw (discharged (r .result) (s .next) (s .code) (s .size) (r .ensures) n h) at (c .match .keys2)))
 
 compose-requires : tie.Need-compose-requires
 compose-requires c κs = search needs
@@ -43,7 +43,7 @@ enum-known-composed : tie.Need-enum-known-composed
 enum-known-composed c = search needs
 
 returns-2 : tie.Need-returns-2
-returns-2 c = λ a n h. absurd (not-first (1 ∷ 2 ∷ 3 ∷ []) refl (rw (made (c .before) a n h) at (c .match2 .keys2)))
+returns-2 c = λ a n h. absurd (miss (1 ∷ 2 ∷ 3 ∷ []) 0 tt (rw (made (c .before) a n h) at (c .match2 .keys2)))
 
 returns-3 : tie.Need-returns-3
 returns-3 c = λ a n h. word-of (c .before .composed .given .1) (made (c .before .before .before) a n h)

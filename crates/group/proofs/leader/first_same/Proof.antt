@@ -7,15 +7,15 @@ use native.Mathlib.Nat.{mul-le-mul-right}
 use native.Mathlib.Omega.{arith}
 use lib.ListN.{length, getD, take, drop}
 use lib.Seq.{take-all}
-use Rattle.group.specs.Members.{Inside, rowAt, leadersAfter}
-use Rattle.memory.specs.Cells.{cellsOf}
+use Rattle.group.specs.promises.Members.{Inside, rowAt, leadersAfter}
+use Rattle.cells.specs.promises.Cells.{cellsOf}
 use Rattle.plan.specs.Group.{sameKeys}
 use Rattle.plan.specs.Table.{rowsOf}
 use Rattle.group.proofs.Leading.{rows-take}
 use Rattle.group.proofs.Listing.{one-more}
 use Rattle.group.proofs.Searching.{none-same, leader-first, none-before}
-use Rattle.group.proofs.Walking.{row-room}
-use Rattle.memory.proofs.Rows.{rows-length}
+use Rattle.cells.proofs.Columns.{row-room}
+use Rattle.cells.proofs.Rows.{rows-length}
 use Rattle.group.proofs.leader.first_same.Statement.{statement}
 use Rattle.group.proofs.leader.first_same.Tie as tie
 

@@ -6,11 +6,11 @@ use mathlib.Core.Logic.{⊎-elim}
 use native.Mathlib.Omega.{arith}
 use lib.ListN.{length, drop, take, length-set}
 use lib.Seq.{take-all}
-use Rattle.group.specs.Members.{Inside, rowsIn, leadersAfter}
-use Rattle.memory.specs.Cells.{cellsOf}
+use Rattle.group.specs.promises.Members.{Inside, rowsIn, leadersAfter}
+use Rattle.cells.specs.promises.Cells.{cellsOf}
 use Rattle.group.proofs.Leading.{leaders-more}
 use Rattle.group.proofs.Listing.{Listed, listed-passed, listed-more}
-use Rattle.memory.proofs.Rows.{rows-length}
+use Rattle.cells.proofs.Rows.{rows-length}
 use Rattle.group.proofs.leader.leaders.Statement.{statement}
 use Rattle.group.proofs.leader.leaders.Tie as tie
 

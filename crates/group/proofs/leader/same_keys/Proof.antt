@@ -8,9 +8,9 @@ use native.Mathlib.Omega.{arith}
 use lib.ListN.{length}
 use borrow.Author.Needs.{needs}
 use borrow.Author.Tests.{eq-eqb, ne-eqb, not-true, not-false}
-use Rattle.group.specs.Members.{rowAt}
+use Rattle.group.specs.promises.Members.{rowAt}
 use Rattle.label.specs.Word.{fieldAt}
-use Rattle.memory.specs.Cells.{cellsOf}
+use Rattle.cells.specs.promises.Cells.{cellsOf}
 use Rattle.plan.specs.Group.{sameKeys}
 use Rattle.comparison.specs.Comparison.{same}
 use Rattle.group.proofs.Reading.{key-compared, column-passed, differ, value-read}

@@ -1,31 +1,22 @@
 -- `group::made::replace` meets its contract: the rows made are within both slices, so they are moved. Assumes nothing.
-use Prim.Native.Nat.{_+_}
-use mathlib.Core.Path.{_≡_, ap, _∙_}
-use mathlib.Core.Bool.{true}
 use native.Mathlib.Omega.{arith}
 use borrow.Author.Needs.{needs}
-use Rattle.group.specs.Made.{width}
-use Rattle.group.proofs.Moving.{cells-fit, moves-within, replaced}
+use Rattle.cells.specs.promises.Work.{work}
+use Rattle.cells.proofs.CellLaws.{values-moved, labels-moved}
+use Rattle.group.proofs.Moving.{cells-fit, in-values, in-labels, replaced}
 use Rattle.group.proofs.made.replace.Statement.{statement}
 use Rattle.group.proofs.made.replace.Tie as tie
+
+abbrev start : tie.After-write-groups → tie.Start
+start c = c .before .before .before .before
 
 write-groups-requires : tie.Need-write-groups-requires
 write-groups-requires c κs = search needs
 
-key-count-requires : tie.Need-key-count-requires
-key-count-requires c κs = search needs
-
-add-width : tie.Need-add-width
-add-width c = search needs
-
 mul-move-cells : tie.Need-mul-move-cells
 mul-move-cells c =
-    let k = c .before .before .key-count in
-    let w = c .before .before .before .before .before .before .write-groups in
-    let s = c .before .before .before .before .before .before .before .before .before .before in
-    let e : k .result + 1 ≡ width (s .args .g) = ap (λ n. n + 1) (k .ensures) in
-    let fit = cells-fit (s .args .g) (s .args .values .now) (s .args .labels .now) (s .pre .0) (w .result) (w .last .0) (w .last .1 .0) (w .ensures) in
-    rw e (omega (arith, fit))
+    let u = c .before .before .before .before .before .before in
+    omega (arith, cells-fit (start u .pre .0) (u .write-groups .ensures))
 
 move-cells-requires : tie.Need-move-cells-requires
 move-cells-requires c κs = search needs
@@ -38,22 +29,21 @@ same-length-2 c = search needs
 
 returns : tie.Need-returns
 returns c =
-    let mv = c .before .before .before .move-cells in
-    let k = c .before .before .before .before .before .before .key-count in
-    let w = c .before .before .before .before .before .before .before .before .before .before .write-groups in
-    let s = c .before .before .before .before .before .before .before .before .before .before .before .before .before .before in
-    let a = s .args in
-    let e : k .result + 1 ≡ width (a .g) = ap (λ n. n + 1) (k .ensures) in
-    let moves : mv .result ≡ true = mv .ensures .0 ∙ rw e (moves-within (a .g) (a .values .now) (a .labels .now) (s .pre .0) (w .result) (w .last .0) (w .last .1 .0) (w .ensures)) in
-    rw (rw (moves, e) at (mv .ensures .1 .0), rw (moves, e) at (mv .ensures .1 .1)) (replaced (a .g) (a .values .now) (a .labels .now) (s .pre .0) (w .result) (w .last .0) (w .last .1 .0) (w .ensures))
+    let m = c .before .before .before in
+    let u = m .before .before .before .before .before .before .before in
+    let p = start u .pre .0 in
+    let made = u .write-groups .ensures in
+    let w = work (u .write-groups .last .0) (u .write-groups .last .1 .0) in
+    let e = m .move-cells .ensures in
+    let v = in-values p made in
+    let l = in-labels p made in
+    rw (values-moved w v l (e .0) (e .1 .0) (e .1 .1), labels-moved w v l (e .0) (e .1 .0) (e .1 .1)) (replaced p made)
 
 pub replace-spec : {M : Type 1} → statement M
 replace-spec =
     tie.close
     (tie.spec
     write-groups-requires
-    key-count-requires
-    add-width
     mul-move-cells
     move-cells-requires
     same-length

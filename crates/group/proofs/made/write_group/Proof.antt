@@ -2,9 +2,9 @@
 use mathlib.Core.Path.{_≡_, _∙_}
 use lib.ListN.{length}
 use borrow.Author.Needs.{needs}
-use Rattle.group.specs.Members.{Inside, Allowed, members, rowsFrom, rowsIn}
-use Rattle.group.specs.Summaries.{valuesIn, labelsIn}
-use Rattle.memory.specs.Cells.{cellsOf}
+use Rattle.group.specs.promises.Members.{Inside, Allowed, members, rowsFrom, rowsIn}
+use Rattle.group.specs.promises.Summaries.{valuesIn, labelsIn}
+use Rattle.cells.specs.promises.Work.{work, cellsIn}
 use Rattle.plan.specs.Group.{aggregateValue, composedAfter}
 use Rattle.plan.specs.Numbers.{aggregateCode}
 use Rattle.plan.specs.Sense.{Each}
@@ -41,7 +41,7 @@ returns c = λ leaders chain e.
     let s = u .before .before .before in
     let a = s .args in
     let p = s .pre in
-    let M = cellsOf (a .values .now) (a .labels .now) in
+    let M = cellsIn (work (a .values .now) (a .labels .now)) in
     let in-values : Inside (a .g) (length (a .values .now)) = search needs in
     let in-labels : Inside (a .g) (length (a .labels .now)) = search needs in
     let sum = u .summary .ensures leaders (a .labels .now) chain e in-labels in

@@ -1,44 +1,53 @@
 -- `group::made::write_groups` meets its contract. The loop: the groups of the leaders passed are written. Assumes nothing.
 use Prim.Native.Nat.{_+_, _-_, _*_, _≤_}
 use mathlib.Core.Path.{_≡_, refl, ap, _∙_}
+use mathlib.Core.List.{[]}
 use mathlib.Core.Logic.{⊎-elim}
 use native.Mathlib.Omega.{arith}
-use lib.ListN.{length}
+use lib.ListN.{length, take}
 use borrow.Author.Needs.{needs}
-use Rattle.group.specs.Made as made
-use Rattle.group.specs.Members.{Inside}
+use Rattle.cells.specs.promises.Work.{work, cellsIn}
+use Rattle.group.specs.promises.Members.{Inside, leadersAfter, rowsIn}
+use Rattle.memory.specs.promises.Stack.{lastSlot}
 use Rattle.group.proofs.Making.{leader-before, row-fits, Making, none-made, same-rows, row-passed, group-made, all-made}
 use Rattle.group.proofs.made.write_groups.Statement.{statement}
 use Rattle.group.proofs.made.write_groups.Tie as tie
 
 abbrev Inv-loop : tie.InvT-loop
-Inv-loop values₀ labels₀ g found rows next width count₀ to₀ row₀ values labels count to row = (row ≤ rows) × (rows ≤ 256) × (count ≤ row) × (width ≡ made.width g) × (width ≤ 8) × (to ≡ 6144 + count * width) × (length values ≡ length values₀) × (length labels ≡ length labels₀) × Making g values₀ labels₀ values labels count row
+Inv-loop values₀ labels₀ g found rows next count₀ to₀ row₀ values labels count to row =
+    (row ≤ rows) × (rows ≤ 256) × (count ≤ row) × (g .width ≤ 8) × (to ≡ lastSlot + count * g .width) × (length values ≡ length values₀) × (length labels ≡ length labels₀)
+    × Making g (work values₀ labels₀) (work values labels) count row
 
 abbrev μ-loop : tie.MeasureT-loop
-μ-loop values₀ labels₀ g found rows next width count₀ to₀ row₀ values labels count to row = rows - row
+μ-loop values₀ labels₀ g found rows next count₀ to₀ row₀ values labels count to row = rows - row
+
+-- what is known before the loop
+abbrev start : tie.After-found Inv-loop μ-loop → tie.Start Inv-loop μ-loop
+start c = c .before .before .before .before
+
+inside-labels : (c : tie.After-found Inv-loop μ-loop) → let a = start c .args in Inside (a .g) (length (a .labels .now))
+inside-labels c = let p = start c .pre .0 in record { few-rows = p .few-rows; few-columns = p .few-columns; has-column = p .has-column; within = omega (arith, p .below, p .labels-room) }
+
+known : (c : tie.After-found Inv-loop μ-loop) → let a = start c .args in
+    take (a .g .rows) (c .before .leaders .result) ≡ leadersAfter (a .g .keys) (a .g .columns) [] (rowsIn (a .g) (cellsIn (work (a .values .now) (a .labels .now))))
+known c = c .before .leaders .ensures .1 (start c .args .labels .now) (inside-labels c)
+
+abbrev turn : tie.In-loop Inv-loop μ-loop → tie.At-loop Inv-loop μ-loop
+turn c = c .before
 
 leaders-requires : tie.Need-leaders-requires Inv-loop μ-loop
 leaders-requires c κs = search needs
 
 chain-requires : tie.Need-chain-requires Inv-loop μ-loop
 chain-requires c κs =
-    let s = c .before .before .before .before in
-    let a = s .args in
-    let inside : Inside (a .g) (length (a .labels .now)) = search needs in
-    let found = c .before .leaders in
-    (s .pre .0 .few-rows, found .ensures .0, λ row h. omega (arith, s .pre .0 .few-rows, leader-before (a .g) (a .values .now) (a .labels .now) (found .result) (found .ensures .1 (a .labels .now) inside) row h))
-
-key-count-requires : tie.Need-key-count-requires Inv-loop μ-loop
-key-count-requires c κs = omega arith
-
-add-width : tie.Need-add-width Inv-loop μ-loop
-add-width c = omega (arith, c .key-count .ensures)
+    let s = start c in
+    let few = s .pre .0 .few-rows in
+    (few, c .before .leaders .ensures .0, λ row h. omega (arith, few, leader-before (s .args .g) (work (s .args .values .now) (s .args .labels .now)) (c .before .leaders .result) (known c) row h))
 
 loop-holds : tie.Need-loop-holds Inv-loop μ-loop
 loop-holds c =
-    let s = c .before .before .before .before .before .before in
-    let e : c .key-count .result + 1 ≡ made.width (s .args .g) = ap (λ n. n + 1) (c .key-count .ensures) in
-    (omega arith, s .pre .0 .few-rows, omega arith, e, rw e (s .pre .0 .narrow), omega arith, refl, refl, none-made (s .args .g) (s .args .values .now) (s .args .labels .now) (s .pre .0))
+    let s = start (c .before) in
+    (omega arith, s .pre .0 .few-rows, omega arith, s .pre .0 .narrow, omega arith, refl, refl, none-made (s .args .g) (work (s .args .values .now) (s .args .labels .now)) (s .pre .0))
 
 mul-if1 : tie.Need-mul-if1 Inv-loop μ-loop
 mul-if1 c = omega arith
@@ -48,21 +57,24 @@ array-read-if1 c = omega arith
 
 write-group-requires : tie.Need-write-group-requires Inv-loop μ-loop
 write-group-requires c κs =
-    let s = c .before .before .before .before .before .before .before .before .before .before .before .before in
-    let a = s .args in
-    let l = c .before .before .before .before .before .loop in
+    let t = c .before .before .before .before in
+    let l = turn t .loop in
     let i = l .inv in
-    let h = c .before .before .before .before .loop-test .taken in
-    let fit = row-fits (l .count) _ (omega arith) (i .4) in (
-      rw (i .6, i .7) (s .pre .0),
+    let s = start (turn t .before .before) in
+    let fit = row-fits (l .count) _ (omega arith) (i .3) in (
+      rw (i .5, i .6) (s .pre .0),
       (
-        rw (same-rows (a .g) (a .values .now) (a .labels .now) (s .pre .0) (l .values) (l .labels) (l .count) (l .row) (i .8)) (s .pre .1),
-        (h, c .before .before .before .before .before .before .before .chain .ensures .0, omega arith, rw (← i .3) (omega arith)),
+        rw (same-rows (s .args .g) (work (s .args .values .now) (s .args .labels .now)) (s .pre .0) (work (l .values) (l .labels)) (l .count) (l .row) (i .7)) (s .pre .1),
+        (t .loop-test .taken, turn t .before .chain .ensures .0, omega arith, omega arith),
       ),
     )
 
+-- from the end of a group
+abbrev written : tie.After-struct-known Inv-loop μ-loop → tie.In-loop Inv-loop μ-loop
+written c = c .before .before .before .before .before .before .before .before .before
+
 add-to : tie.Need-add-to Inv-loop μ-loop
-add-to c = omega (arith, row-fits (c .before .before .before .before .before .before .before .before .before .loop .count) _ (omega arith) (c .before .before .before .before .before .before .before .before .before .loop .inv .4))
+add-to c = let l = turn (written c) .loop in omega (arith, row-fits (l .count) _ (omega arith) (l .inv .3))
 
 add-count : tie.Need-add-count Inv-loop μ-loop
 add-count c = omega arith
@@ -75,52 +87,50 @@ loop-less c = omega arith
 
 loop-again : tie.Need-loop-again Inv-loop μ-loop
 loop-again c =
-    let s = c .before .before .before .before .before .before .before .before .before in
-    let a = s .args in
-    let l = c .before .before .loop in
+    let t = c .before in
+    let l = turn t .loop in
     let i = l .inv in
-    let h = c .before .loop-test .taken in
-    let found = c .before .before .before .before .before .before .leaders in
-    let inside : Inside (a .g) (length (a .labels .now)) = search needs in
-    let known = found .ensures .1 (a .labels .now) inside in
+    let f = turn t .before .before in
+    let s = start f in
+    let before = work (s .args .values .now) (s .args .labels .now) in
+    let now = work (l .values) (l .labels) in
+    let h = t .loop-test .taken in
+    let found = f .before .leaders .result in
     ⊎-elim
     (λ w.
-    let wrote = w .4 .ensures (found .result) (c .before .before .before .before .chain .ensures .1) (w .0 .taken) in
-    let place : l .to ≡ 6144 + l .count * made.width (a .g) = i .5 ∙ ap (λ n. 6144 + l .count * n) (i .3) in (
+    let put = w .4 .ensures found (turn t .before .chain .ensures .1) (w .0 .taken) in (
       omega arith,
       i .1,
-      rw (w .10) (omega arith),
+      rw (w .11) (omega arith),
       i .3,
-      i .4,
-      rw (w .11, w .10) (omega arith),
-      ap length (w .8) ∙ wrote .kept .as-many-values ∙ i .6,
-      ap length (w .9) ∙ wrote .kept .as-many-labels ∙ i .7,
-      rw (w .8, w .9, w .10) (group-made (a .g) (a .values .now) (a .labels .now) (s .pre .0) (found .result) known (l .values) (l .labels) (l .count) (l .row) (i .8) h _ _ (w .0 .taken) (rw place at wrote)),
+      rw (w .12, w .11) (omega arith),
+      ap length (w .9) ∙ put .kept .as-many-values ∙ i .5,
+      ap length (w .10) ∙ put .kept .as-many-labels ∙ i .6,
+      rw (w .9, w .10, w .11) (group-made (s .args .g) before (s .pre .0) found (known f) now (l .count) (l .row) (i .7) h _ (w .0 .taken) (i .4) put),
     ))
     (λ w. (
       omega arith,
       i .1,
       rw (w .3) (omega arith),
       i .3,
-      i .4,
-      rw (w .4, w .3) (i .5),
-      rw (w .1) (i .6),
-      rw (w .2) (i .7),
-      rw (w .1, w .2, w .3) (row-passed (a .g) (a .values .now) (a .labels .now) (s .pre .0) (found .result) known (l .values) (l .labels) (l .count) (l .row) (i .8) h (w .0 .left)),
+      rw (w .4, w .3) (i .4),
+      rw (w .1) (i .5),
+      rw (w .2) (i .6),
+      rw (w .1, w .2, w .3) (row-passed (s .args .g) before (s .pre .0) found (known f) now (l .count) (l .row) (i .7) h (w .0 .left)),
     ))
     (c .if1 .came)
 
 same-length : tie.Need-same-length Inv-loop μ-loop
-same-length c = c .before .loop .inv .6
+same-length c = c .before .loop .inv .5
 
 same-length-2 : tie.Need-same-length-2 Inv-loop μ-loop
-same-length-2 c = c .before .loop .inv .7
+same-length-2 c = c .before .loop .inv .6
 
 returns : tie.Need-returns Inv-loop μ-loop
 returns c =
-    let s = c .before .before .before .before .before .before .before .before in
     let l = c .before .loop in
-    all-made (s .args .g) (s .args .values .now) (s .args .labels .now) (s .pre .0) (l .values) (l .labels) (l .count) (l .row) (l .inv .8) (c .loop-test .left)
+    let s = start (c .before .before .before) in
+    all-made (s .args .g) (work (s .args .values .now) (s .args .labels .now)) (s .pre .0) (work (l .values) (l .labels)) (l .count) (l .row) (l .inv .7) (c .loop-test .left)
 
 pub write-groups-spec : {M : Type 1} → statement M
 write-groups-spec =
@@ -130,8 +140,6 @@ write-groups-spec =
     μ-loop
     leaders-requires
     chain-requires
-    key-count-requires
-    add-width
     loop-holds
     mul-if1
     array-read-if1

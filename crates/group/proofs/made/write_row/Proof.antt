@@ -6,20 +6,22 @@ use native.Mathlib.Omega.{arith}
 use lib.ListN.{length, length-set}
 use mir.Facts.{toZ-ofZ}
 use borrow.Author.Tests.{eq-eqb, ne-eqb}
-use Rattle.group.specs.Members.{rowAt}
+use Rattle.group.specs.promises.Members.{rowAt}
 use Rattle.label.specs.Word.{fieldAt}
-use Rattle.memory.specs.Cells.{cellsOf, Kept}
+use Rattle.cells.specs.promises.Work.{work, cellsIn, room, Kept}
+use Rattle.cells.specs.promises.Written.{CellsWritten}
+use Rattle.memory.specs.promises.Stack.{lastSlot}
 use Rattle.plan.specs.Keep.{keptCount, keptCells}
-use Rattle.group.proofs.Walking.{row-room}
+use Rattle.cells.proofs.Columns.{row-room}
 use Rattle.group.proofs.Writing.{count-key, count-other, count-le, key-passed, key-written, last-written}
-use Rattle.memory.proofs.CellLaws.{cells-length, kept-none, kept-set}
-use Rattle.memory.proofs.Written.{Written, nothing-written}
+use Rattle.cells.proofs.CellLaws.{cells-length, kept-none, kept-set}
+use Rattle.cells.proofs.Written.{nothing-written}
 use Rattle.value.proofs.Machine.{back-is}
 use Rattle.group.proofs.made.write_row.Statement.{statement}
 use Rattle.group.proofs.made.write_row.Tie as tie
 
 abbrev Inv-loop : tie.InvT-loop
-Inv-loop values₀ labels₀ row to value label columns keys at from place₀ column₀ values labels place column = (column ≤ columns) × (columns ≤ 8) × (from + columns ≤ 6144) × (6144 ≤ to) × (to + keptCount keys columns < 8192) × (place < 8192) × (place ≡ to + keptCount keys column) × (8192 ≤ length values₀) × (8192 ≤ length labels₀) × (length values ≡ length values₀) × (length labels ≡ length labels₀) × Written (cellsOf values₀ labels₀) to (keptCells keys column (rowAt columns (cellsOf values₀ labels₀) from)) (cellsOf values labels) × Kept values₀ labels₀ values labels
+Inv-loop values₀ labels₀ row to value label columns keys at from place₀ column₀ values labels place column = (column ≤ columns) × (columns ≤ 8) × (from + columns ≤ lastSlot) × (lastSlot ≤ to) × (to + keptCount keys columns < room) × (place < room) × (place ≡ to + keptCount keys column) × (room ≤ length values₀) × (room ≤ length labels₀) × (length values ≡ length values₀) × (length labels ≡ length labels₀) × CellsWritten (work values₀ labels₀) to (keptCells keys column (rowAt columns (cellsIn (work values₀ labels₀)) from)) (work values labels) × Kept (work values₀ labels₀) (work values labels)
 
 abbrev μ-loop : tie.MeasureT-loop
 μ-loop values₀ labels₀ row to value label columns keys at from place₀ column₀ values labels place column = columns - column
@@ -45,8 +47,8 @@ loop-holds c =
       p .0 .labels-room,
       refl,
       refl,
-      nothing-written (cellsOf (a .values .now) (a .labels .now)) (a .to) (omega (arith, cells-length (a .values .now) (a .labels .now) 8192 (p .0 .values-room) (p .0 .labels-room))),
-      kept-none (a .values .now) (a .labels .now),
+      let before = work (a .values .now) (a .labels .now) in nothing-written (cellsIn before) (a .to) (omega (arith, cells-length before room (p .0 .values-room) (p .0 .labels-room))),
+      kept-none (work (a .values .now) (a .labels .now)),
     )
 
 cast-if1 : tie.Need-cast-if1 Inv-loop μ-loop
@@ -101,9 +103,11 @@ loop-again c =
     let l = c .before .before .loop in
     let i = l .inv in
     let h = c .before .loop-test .taken in
-    let M = cellsOf (a .values .now) (a .labels .now) in
+    let before = work (a .values .now) (a .labels .now) in
+    let w′ = work (l .values) (l .labels) in
+    let M = cellsIn before in
     let from = a .g .at + a .row * a .g .columns in
-    let room = cells-length (a .values .now) (a .labels .now) 8192 (i .7) (i .8) in
+    let long = cells-length before room (i .7) (i .8) in
     let fewer = count-le (a .g .keys) (l .column + 1) (a .g .columns) (omega arith) in
     ⊎-elim
     (λ w.
@@ -120,7 +124,7 @@ loop-again c =
       i .8,
       rw (w .3, length-set) (i .9),
       rw (w .4, length-set) (i .10),
-      rw (w .3, w .4, back-is _ (w .1 .given), i .6) (key-written M (a .g .keys) (a .g .columns) (l .column) from (a .to) (l .values) (l .labels) (i .11) h (omega arith) (omega arith) (omega arith) (omega arith) key),
+      rw (w .3, w .4, back-is _ (w .1 .given), i .6) (key-written M (a .g .keys) (a .g .columns) (l .column) from (a .to) w′ (i .11) h (omega arith) (omega arith) (omega arith) (omega arith) key),
       rw (w .3, w .4) (kept-set (l .place) _ _ (i .5) (i .12)),
     ))
     (λ w.
@@ -137,7 +141,7 @@ loop-again c =
       i .8,
       rw (w .1) (i .9),
       rw (w .2) (i .10),
-      rw (w .1, w .2) (key-passed M (a .g .keys) (a .g .columns) (l .column) from (a .to) (l .values) (l .labels) (i .11) h (omega arith) other),
+      rw (w .1, w .2) (key-passed M (a .g .keys) (a .g .columns) (l .column) from (a .to) w′ (i .11) h (omega arith) other),
       rw (w .1, w .2) (i .12),
     ))
     (c .if1 .came)
@@ -167,9 +171,10 @@ returns c =
     let i = l .inv in
     let e : l .column ≡ a .g .columns = omega arith in
     let p : l .place ≡ a .to + keptCount (a .g .keys) (a .g .columns) = rw e at (i .6) in
-    let room = cells-length (a .values .now) (a .labels .now) 8192 (i .7) (i .8) in
+    let before = work (a .values .now) (a .labels .now) in
+    let long = cells-length before room (i .7) (i .8) in
     record {
-      written = rw (p, toZ-ofZ (c .before .before .fits .value)) (last-written (cellsOf (a .values .now) (a .labels .now)) (a .g .keys) (a .g .columns) (a .g .at + a .row * a .g .columns) (a .to) (l .values) (l .labels) (a .value) (a .label) (rw e at (i .11)) (omega arith));
+      written = rw (p, toZ-ofZ (c .before .before .fits .value)) (last-written (cellsIn before) (a .g .keys) (a .g .columns) (a .g .at + a .row * a .g .columns) (a .to) (work (l .values) (l .labels)) (a .value) (a .label) (rw e at (i .11)) (omega arith));
       kept = kept-set (l .place) _ _ (i .5) (i .12);
     }
 

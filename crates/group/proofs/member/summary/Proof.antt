@@ -5,13 +5,14 @@ use mathlib.Core.List.{List}
 use native.Mathlib.Omega.{arith}
 use lib.ListN.{length, getD, drop}
 use borrow.Author.Needs.{needs}
-use Rattle.group.specs.Members.{rowAt, chosen, Chain, Onward}
-use Rattle.group.specs.Summaries.{summaryFrom, single, withValue, valuesIn}
-use Rattle.memory.specs.Cells.{cellsOf}
+use Rattle.group.specs.promises.Members.{rowAt, chosen, Chain, Onward}
+use Rattle.group.specs.promises.Summaries.{summaryFrom, single, withValue, valuesIn}
+use Rattle.cells.specs.promises.Cells.{cellsOf}
 use Rattle.plan.specs.Table.{Row, cellAt, rowsOf}
 use Rattle.group.proofs.Choosing.{next-led, next-left, member-next}
 use Rattle.group.proofs.Reading.{value-read}
-use Rattle.group.proofs.Walking.{Walking, walk-from, walk-to, inside, inside-other}
+use Rattle.group.proofs.Walking.{walk-from, walk-to, inside-other}
+use Rattle.cells.proofs.Columns.{Walking, inside}
 use Rattle.value.proofs.Machine.{back-is}
 use Rattle.group.proofs.member.summary.Statement.{statement}
 use Rattle.group.proofs.member.summary.Tie as tie

@@ -1,76 +1,105 @@
 -- `group::refusal::forbidden` meets its contract. The loop: the search is what is left of it, after the rows passed. Assumes nothing.
-use Prim.Native.Nat.{_+_, _-_, _*_}
+use Prim.Native.Nat.{_+_, _-_, _≤_}
 use mathlib.Core.Path.{_≡_, sym, ap, _∙_}
-use native.Mathlib.Nat.{zero-mul}
+use mathlib.Core.Bool.{true}
 use native.Mathlib.Omega.{arith}
 use lib.ListN.{length, getD, drop}
 use borrow.Author.Needs.{needs}
-use Rattle.group.specs.Members.{forbidsAt}
+use Rattle.cells.specs.promises.Cells.{gridOf}
+use Rattle.cells.specs.promises.Labelled.{columnFormed}
+use Rattle.cells.specs.promises.Search.{says}
+use Rattle.group.specs.promises.Members.{forbidsAt, gridIn}
 use Rattle.label.specs.Discharge.{forbidsA}
-use Rattle.memory.specs.Cells.{gridOf}
-use Rattle.memory.specs.Steps.{says}
 use Rattle.plan.specs.Verdict.{orElse, refuseIf, firstRow}
-use Rattle.group.proofs.Columns.{forbids-next}
-use Rattle.group.proofs.Walking.{Walking, walk-from, inside, walk-on}
+use Rattle.cells.proofs.Columns.{Walking, walk-begins, inside, walk-on}
+use Rattle.group.proofs.Columns.{forbids-next, formed-parts}
 use Rattle.group.proofs.refusal.forbidden.Statement.{statement}
 use Rattle.group.proofs.refusal.forbidden.Tie as tie
 
 abbrev Inv-loop : tie.InvT-loop
-Inv-loop labels rows columns column at place₀ row₀ place row = Walking (length labels) at rows columns column row place × (firstRow (forbidsAt column) 0 (gridOf columns rows (drop at labels)) ≡ firstRow (forbidsAt column) row (gridOf columns (rows - row) (drop place labels)))
+Inv-loop labels g aggregate from₀ row₀ from row =
+    Walking (length labels) (g .at) (g .rows) (g .columns) (g .column) row from
+    × (columnFormed (g .column) (gridOf (g .columns) (g .rows - row) (drop from labels)) ≡ true)
+    × (firstRow (forbidsAt (g .column)) 0 (gridIn g labels) ≡ firstRow (forbidsAt (g .column)) row (gridOf (g .columns) (g .rows - row) (drop from labels)))
 
 abbrev μ-loop : tie.MeasureT-loop
-μ-loop labels rows columns column at place₀ row₀ place row = rows - row
+μ-loop labels g aggregate from₀ row₀ from row = g .rows - row
+
+-- a turn of the loop, and what stands before it
+abbrev turn : tie.Then1 Inv-loop μ-loop → tie.At-loop Inv-loop μ-loop
+turn c = c .before .before
+
+abbrev start : tie.Then1 Inv-loop μ-loop → tie.Start Inv-loop μ-loop
+start c = turn c .before .before
 
 -- the row's own verdict, and what is left after it
-left : (c : tie.After-forbids Inv-loop μ-loop) → let a = c .before .before .before .before .before .args in let l = c .before .before .before .loop in
-    firstRow (forbidsAt (a .g .column)) 0 (gridOf (a .g .columns) (a .g .rows) (drop (a .g .at) (a .labels .now)))
-    ≡ orElse (refuseIf (forbidsA (getD (a .labels .now) (l .place + a .g .column) 0)) 32 (l .row) (a .g .column)) (firstRow (forbidsAt (a .g .column)) (l .row + 1) (gridOf (a .g .columns) (a .g .rows - (l .row + 1)) (drop (l .place + a .g .columns) (a .labels .now))))
+left : (c : tie.Then1 Inv-loop μ-loop) → let a = start c .args in let g = a .g in let l = turn c .loop in
+    firstRow (forbidsAt (g .column)) 0 (gridIn g (a .labels .now))
+    ≡ orElse (refuseIf (forbidsA (getD (a .labels .now) (l .from + g .column) 0)) 32 (l .row) (g .column))
+    (firstRow (forbidsAt (g .column)) (l .row + 1) (gridOf (g .columns) (g .rows - (l .row + 1)) (drop (l .from + g .columns) (a .labels .now))))
 left c =
-    let a = c .before .before .before .before .before .args in
-    let l = c .before .before .before .loop in
-    l .inv .1 ∙ forbids-next (a .labels .now) (a .g .columns) (a .g .column) (a .g .rows) (l .row) (l .place) (c .before .before .loop-test .taken) (l .inv .0 .has-column)
+    let g = start c .args .g in
+    let l = turn c .loop in
+    l .inv .2 ∙ forbids-next (start c .args .labels .now) (g .columns) (g .column) (g .rows) (l .row) (l .from) (c .if1 .taken) (l .inv .0 .has-column)
+
+reach : (c : tie.Then1 Inv-loop μ-loop) → let l = turn c .loop in l .from + start c .args .g .columns ≤ length (start c .args .labels .now)
+reach c = inside (turn c .loop .inv .0) (c .if1 .taken)
 
 loop-holds : tie.Need-loop-holds Inv-loop μ-loop
 loop-holds c =
     let g = c .before .args .g in
+    let p = c .before .pre in
     let z : g .rows - 0 ≡ g .rows = omega arith in
-    let p : g .at + 0 * g .columns ≡ g .at = omega (arith, zero-mul (g .columns)) in
-    (rw p at (walk-from g _ 0 (c .before .pre) (omega arith)), rw z)
+    (walk-begins _ (g .at) (g .rows) (g .columns) (g .column) (p .0 .few-rows) (p .0 .has-column) (p .0 .within), rw z (p .1), rw z)
 
 add-forbids : tie.Need-add-forbids Inv-loop μ-loop
-add-forbids c = omega (arith, inside (c .before .loop .inv .0) (c .loop-test .taken))
+add-forbids c = omega (arith, reach (c .before), turn (c .before) .loop .inv .0 .has-column)
 
 mul-forbids : tie.Need-mul-forbids Inv-loop μ-loop
-mul-forbids c = omega (arith, inside (c .before .loop .inv .0) (c .loop-test .taken))
+mul-forbids c = omega (arith, reach (c .before), turn (c .before) .loop .inv .0 .has-column)
 
 shared-slice-read-forbids : tie.Need-shared-slice-read-forbids Inv-loop μ-loop
-shared-slice-read-forbids c = omega (arith, inside (c .before .before .loop .inv .0) (c .before .loop-test .taken))
+shared-slice-read-forbids c = omega (arith, reach (c .before .before), turn (c .before .before) .loop .inv .0 .has-column)
 
 forbids-requires : tie.Need-forbids-requires Inv-loop μ-loop
-forbids-requires c κs = search needs
+forbids-requires c κs =
+    let t = c .before .before in
+    let g = start t .args .g in
+    let l = turn t .loop in
+    formed-parts (start t .args .labels .now) (g .columns) (g .column) (g .rows) (l .row) (l .from) (t .if1 .taken) (l .inv .0 .has-column) (l .inv .1) .0
+
+-- from the test of the row's label
+abbrev tested : tie.After-forbids Inv-loop μ-loop → tie.Then1 Inv-loop μ-loop
+tested c = c .before .before .before
 
 returns : tie.Need-returns Inv-loop μ-loop
-returns c = ap says (sym (left (c .before) ∙ rw (sym (c .before .forbids .ensures) ∙ c .if1 .taken)))
+returns c = ap says (sym (left (tested (c .before)) ∙ rw (sym (c .before .forbids .ensures) ∙ c .if2 .taken)))
 
-add-place : tie.Need-add-place Inv-loop μ-loop
-add-place c = omega (arith, inside (c .before .before .before .before .loop .inv .0) (c .before .before .before .loop-test .taken))
+add-from : tie.Need-add-from Inv-loop μ-loop
+add-from c = omega (arith, reach (tested (c .before .before)))
 
 add-row : tie.Need-add-row Inv-loop μ-loop
-add-row c = omega (arith, c .before .before .before .before .loop .inv .0 .few-rows)
+add-row c = let t = tested (c .before .before) in omega (arith, t .if1 .taken, turn t .loop .inv .0 .few-rows)
 
 loop-less : tie.Need-loop-less Inv-loop μ-loop
-loop-less c = omega arith
+loop-less c = omega (arith, tested (c .before .before) .if1 .taken)
 
 loop-again : tie.Need-loop-again Inv-loop μ-loop
 loop-again c =
-    let l = c .before .before .before .before .loop in
-    (walk-on (l .inv .0) (c .before .before .before .loop-test .taken), left (c .before) ∙ rw (sym (c .before .forbids .ensures) ∙ c .if1 .left))
+    let f = c .before .before in
+    let t = tested f in
+    let g = start t .args .g in
+    let l = turn t .loop in (
+      walk-on (l .inv .0) (t .if1 .taken),
+      formed-parts (start t .args .labels .now) (g .columns) (g .column) (g .rows) (l .row) (l .from) (t .if1 .taken) (l .inv .0 .has-column) (l .inv .1) .1,
+      left t ∙ rw (sym (f .forbids .ensures) ∙ c .before .if2 .left),
+    )
 
 returns-2 : tie.Need-returns-2 Inv-loop μ-loop
 returns-2 c =
-    let l = c .before .loop in
-    let z : c .before .before .before .args .g .rows - l .row ≡ 0 = omega arith in
-    ap says (sym (l .inv .1 ∙ rw z))
+    let l = c .before .before .loop in
+    let z : c .before .before .before .before .args .g .rows - l .row ≡ 0 = omega (arith, c .if1 .left) in
+    ap says (sym (l .inv .2 ∙ rw z))
 
 pub forbidden-spec : {M : Type 1} → statement M
 forbidden-spec =
@@ -84,7 +113,7 @@ forbidden-spec =
     shared-slice-read-forbids
     forbids-requires
     returns
-    add-place
+    add-from
     add-row
     loop-less
     loop-again

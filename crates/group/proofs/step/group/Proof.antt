@@ -1,99 +1,131 @@
--- `group::step::group` meets its contract: its parts do what every step promises. Assumes nothing.
-use Prim.Native.Nat.{_+_}
-use mathlib.Core.Path.{_≡_, refl, sym, ap, _∙_}
-use mathlib.Core.Bool.{cond, true}
-use mathlib.Core.List.{List, [], _∷_}
+-- `group::step::group` meets its contract. Assumes nothing.
+use mathlib.Core.Path.{_≡_, sym, ap, _∙_}
+use mathlib.Core.Bool.{true}
+use mathlib.Core.List.{List, []}
 use native.Mathlib.Omega.{arith}
 use lib.ListN.{length}
+use denote.Ref.{now}
 use borrow.Author.Needs.{needs}
 use borrow.Author.Tests.{not-true, not-false}
-use Rattle.memory.specs.Labelled.{columnFormed}
-use Rattle.group.specs.Made.{width, Source}
-use Rattle.group.specs.Members.{sourceOf, gridIn}
-use Rattle.memory.specs.Steps.{said, says, unfit, fits, widthsOf}
+use Rattle.cells.specs.promises.Labelled.{columnFormed}
+use Rattle.cells.specs.promises.Search.{says}
+use Rattle.cells.specs.promises.Work.{work}
+use Rattle.group.specs.promises.Fits.{groupFits}
+use Rattle.memory.specs.promises.Stack.{widthsTo, labelsIn}
+use Rattle.memory.specs.promises.Steps.{stepSays, fits}
 use Rattle.plan.specs.Group.{checkGroup}
 use Rattle.plan.specs.Table.{Table}
-use Rattle.plan.specs.Verdict.{fine}
+use Rattle.plan.specs.Widths.{columnsExist, madeColumns}
 use Rattle.plan.specs.declared.Step.the-variants.{Group}
-use Rattle.group.proofs.Fitting.{Fitting, is-fitting}
-use Rattle.group.proofs.Making.{inside-labels}
-use Rattle.group.proofs.Stepping.{unfit-done, source-fits, allowed, refused-done, grouped-done}
-use Rattle.group.proofs.Tags.{not-first}
+use Rattle.memory.proofs.Finish.{unfit-done, never-unfit, columns-fit, columns-misfit}
+use Rattle.group.proofs.Meaning.{GroupFits, group-parts, source-is, fits-is, allowed, formed-parts, refused-group, made-group, misfit-first}
 use Rattle.group.proofs.step.group.Statement.{statement}
 use Rattle.group.proofs.step.group.Tie as tie
 
--- what the test of the arguments says
-tested : (c : tie.Else1) (tables : List Table) → let a = c .before .before .before .args in
-    fits (Group (a .keys) (a .aggregate) (a .column)) (widthsOf tables) (length (a .values .now)) (length (a .labels .now)) (a .stack) ≡ true
-tested c tables = sym (c .before .fits2 .ensures (c .before .before .before .args .aggregate) (widthsOf tables)) ∙ not-false _ (c .if1 .left)
+-- the columns fit
+abbrev start : tie.After-live-table → tie.Start
+start c = c .before .before .before .before .before .before
 
-fitting : (c : tie.Else1) → let a = c .before .before .before .args in Fitting (length (a .values .now)) (length (a .labels .now)) (a .stack) (a .keys) (a .column)
-fitting c = let a = c .before .before .before .args in is-fitting (a .keys) (a .column) (a .aggregate) (widthsOf []) _ _ (a .stack) (tested c [])
+fitted : (c : tie.After-live-table) → let a = start c .args in
+    (fits (Group (a .keys) (a .aggregate) (a .column)) [] (length (now (a .values))) (length (now (a .labels))) (a .stack) ≡ true)
+    × (c .before .before .columns .given .0 .0 ≡ madeColumns (Group (a .keys) (a .aggregate) (a .column)) [] (widthsTo (a .stack) (a .stack .depth)))
+fitted c = columns-fit _ _ (sym (c .before .before .before .before .fit .ensures) ∙ c .before .before .columns .given .1)
 
--- the table that is grouped
-chosen : (c : tie.After-source) → let a = c .before .before .before .before .args in Source (c .source .result) (length (a .values .now)) (length (a .labels .now))
-chosen c =
-    let e = c .before in
-    let a = e .before .before .before .args in
-    rw (c .source .ensures) (source-fits (a .values .now) (a .labels .now) (a .stack) (a .keys) (a .aggregate) (a .column) [] (tested e []) (fitting e))
+parts : (c : tie.After-live-table) → let a = start c .args in
+    GroupFits (a .keys) (a .column) (length (now (a .values))) (length (now (a .labels))) (a .stack) (c .live-table .result) (c .before .before .columns .given .0 .0)
+parts c = let a = start c .args in group-parts (a .keys) (a .aggregate) (a .column) [] _ _ (a .stack) _ _ (c .live-table .ensures) (fitted c .0) (fitted c .1)
+
+-- the labels, as they were tested
+abbrev tested : tie.After-column-formed → tie.After-live-table
+tested c = c .before .before
+
+answered : (c : tie.After-column-formed) (tables : List Table) → let l = tested c in let a = start l .args in
+    groupFits (a .keys) (a .aggregate) (a .column) tables (work (now (a .values)) (now (a .labels))) (a .stack) ≡ c .column-formed .result
+unfolding columnsExist madeColumns
+answered c tables =
+    let l = tested c in
+    let a = start l .args in
+    fits-is (a .keys) (a .aggregate) (a .column) tables (work (now (a .values)) (now (a .labels))) (a .stack) (fitted l .0) (parts l) ∙ sym (c .column-formed .ensures)
+
+formed : (c : tie.Else1) → let l = tested (c .before) in let a = start l .args in columnFormed (a .column) (labelsIn (now (a .labels)) (l .live-table .result)) ≡ true
+formed c =
+    let l = tested (c .before) in
+    formed-parts (now (start l .args .labels)) (l .live-table .result) (start l .args .column) (sym (c .before .column-formed .ensures) ∙ not-false _ (c .if1 .left))
 
 -- what its labels forbid
-told : (c : tie.After-refusal) → let a = c .before .before .before .before .before .before .args in
-    let g = sourceOf (a .stack) (a .keys) (a .aggregate) (a .column) in
-    let labels = gridIn g (a .labels .now) in
-    said (c .refusal .result) ≡ cond (columnFormed (a .column) labels) (says (checkGroup (a .keys) (a .column) labels)) unfit
-told c = rw (c .before .before .source .ensures) at (c .refusal .ensures)
+abbrev passed : tie.After-refusal → tie.Else1
+passed c = c .before .before .before
 
-made : (c : tie.After-enum-told) → let a = c .before .before .before .before .before .before .before .before .args in
-    let g = sourceOf (a .stack) (a .keys) (a .aggregate) (a .column) in
-    let labels = gridIn g (a .labels .now) in
-    says fine ≡ cond (columnFormed (a .column) labels) (says (checkGroup (a .keys) (a .column) labels)) unfit
-made c = sym (ap said (c .enum-told .given .1)) ∙ told (c .before .before)
+told : (c : tie.After-refusal) → let l = tested (passed c .before) in let a = start l .args in
+    stepSays (c .refusal .result) ≡ says (checkGroup (a .keys) (a .column) (labelsIn (now (a .labels)) (l .live-table .result)))
+told c = rw (c .before .before .grouping .ensures) at (c .refusal .ensures)
 
-fits-requires : tie.Need-fits-requires
-fits-requires c κs = search needs
+fit-requires : tie.Need-fit-requires
+fit-requires c κs = search needs
 
-returns : tie.Need-returns
-returns c = λ tables.
-    let a = c .before .before .before .args in
-    unfit-done (a .values .now) (a .labels .now) (a .stack) (a .keys) (a .aggregate) (a .column) tables (sym (c .before .fits2 .ensures (a .aggregate) (widthsOf tables)) ∙ not-true _ (c .if1 .taken))
-
-source-requires : tie.Need-source-requires
-source-requires c κs = (fitting c .some, fitting c .stands .depth)
-
-refusal-requires : tie.Need-refusal-requires
-refusal-requires c κs = inside-labels (chosen (c .before))
+enum-known-columns : tie.Need-enum-known-columns
+enum-known-columns c = search needs
 
 enum-told : tie.Need-enum-told
 enum-told c = search needs
+
+returns : tie.Need-returns
+unfolding columnsExist madeColumns
+returns c =
+    let a = c .before .before .before .before .args in
+    λ tables. unfit-done (Group (a .keys) (a .aggregate) (a .column)) tables _ _
+    (misfit-first (a .keys) (a .aggregate) (a .column) tables (work (now (a .values)) (now (a .labels))) (a .stack) (columns-misfit _ _ (sym (c .before .before .fit .ensures) ∙ c .enum-told .given .1)))
+
+live-table-requires : tie.Need-live-table-requires
+live-table-requires c κs = search needs
+
+column-formed-requires : tie.Need-column-formed-requires
+column-formed-requires c κs = search needs
 
 same-length : tie.Need-same-length
 same-length c = search needs
 
 returns-2 : tie.Need-returns-2
-returns-2 c = λ tables.
-    let e = c .before .before .before .before in
-    let a = e .before .before .before .args in
-    refused-done (a .values .now) (a .labels .now) (a .stack) (a .keys) (a .aggregate) (a .column) tables (tested e tables) (fitting e) (c .before .refusal .result)
-    (λ m. not-first (1 ∷ 2 ∷ 3 ∷ 4 ∷ 5 ∷ []) refl (rw m at (c .match .keys2))) (told (c .before))
+returns-2 c =
+    let a = start (tested (c .before)) .args in
+    λ tables. unfit-done (Group (a .keys) (a .aggregate) (a .column)) tables _ _ (answered (c .before) tables ∙ not-true _ (c .if1 .taken))
+
+grouping-requires : tie.Need-grouping-requires
+grouping-requires c κs = search needs
+
+refusal-requires : tie.Need-refusal-requires
+refusal-requires c κs =
+    let e = c .before .before in
+    let p = parts (tested (e .before)) in
+    let i = p .inside-is in
+    rw (c .before .grouping .ensures)
+    (record { few-rows = i .few-rows; few-columns = i .few-columns; has-column = p .below; within = omega (arith, i .below, i .labels-room) }, formed e)
+
+enum-known-refusal : tie.Need-enum-known-refusal
+enum-known-refusal c = search needs
+
+enum-told-2 : tie.Need-enum-told-2
+enum-told-2 c = search needs
+
+enum-told-3 : tie.Need-enum-told-3
+enum-told-3 c = search needs
+
+-- from the end of the tests
+abbrev clear : tie.After-enum-told3 → tie.After-refusal
+clear c = c .before .before
 
 replace-requires : tie.Need-replace-requires
+unfolding columnsExist madeColumns
 replace-requires c κs =
-    let s = c .before .before .before .before .before .before in
-    let e = s .before in
-    let a = e .before .before .before .args in
-    (chosen s, rw (s .source .ensures) (allowed (a .values .now) (a .labels .now) (a .stack) (a .keys) (a .aggregate) (a .column) [] (tested e []) (fitting e) (made (c .before .before))))
-
-key-count-requires : tie.Need-key-count-requires
-key-count-requires c κs = chosen (c .before .before .before .before .before .before .before .before .before .before) .few-columns
-
-add-width : tie.Need-add-width
-add-width c =
-    let s = chosen (c .before .before .before .before .before .before .before .before .before .before .before) in
-    omega (arith, s .narrow, c .key-count .ensures)
-
-sub-with-table : tie.Need-sub-with-table
-sub-with-table c = fitting (c .before .before .before .before .before .before .before .before .before .before .before .before .before) .some
+    let t = c .before .before in
+    let r = clear t in
+    let l = tested (passed r .before) in
+    let a = start l .args in
+    let w = work (now (a .values)) (now (a .labels)) in
+    rw (r .before .before .grouping .ensures) (
+      source-is (a .keys) (a .aggregate) (a .column) [] w (a .stack) (fitted l .0) (parts l),
+      allowed (a .keys) (a .aggregate) (a .column) [] w (a .stack) (fitted l .0) (parts l) (formed (passed r)) (sym (ap stepSays (t .enum-told3 .given .1)) ∙ told r),
+    )
 
 with-table-requires : tie.Need-with-table-requires
 with-table-requires c κs = search needs
@@ -101,37 +133,64 @@ with-table-requires c κs = search needs
 same-length-2 : tie.Need-same-length-2
 same-length-2 c = search needs
 
+returns-3 : tie.Need-returns-3
+unfolding columnsExist madeColumns
+returns-3 c =
+    let refused = c in
+    let r = refused .before .before .before in
+    let e = passed r in
+    let l = tested (e .before) in
+    let a = start l .args in
+    λ tables. refused-group (a .keys) (a .aggregate) (a .column) tables (work (now (a .values)) (now (a .labels))) (a .stack) (fitted l .0) (parts l)
+    (answered (e .before) tables ∙ not-false _ (e .if1 .left)) _ (sym (ap stepSays (refused .before .refusal2 .given .1)) ∙ told r)
+
 same-length-3 : tie.Need-same-length-3
 same-length-3 c = search needs
 
-returns-3 : tie.Need-returns-3
-returns-3 c = λ tables.
-    let r = c .before .before .before .before .before .before in
-    let m = r .before .before .before in
-    let s = m .before .before .before .before in
-    let e = s .before in
-    let a = e .before .before .before .args in
-    let g = sourceOf (a .stack) (a .keys) (a .aggregate) (a .column) in
-    let w : c .before .before .key-count .result + 1 ≡ width g = ap (λ n. n + 1) (rw (s .source .ensures) at (c .before .before .key-count .ensures)) in
-    rw (c .with-table .ensures, w)
-    (grouped-done (a .values .now) (a .labels .now) (a .stack) (a .keys) (a .aggregate) (a .column) tables (tested e tables) (fitting e) (made m) (r .replace .result) (r .replace .last .0) (r .replace .last .1 .0) (rw (s .source .ensures) at (r .replace .ensures)))
+returns-4 : tie.Need-returns-4
+returns-4 c = absurd (never-unfit (sym (ap stepSays (c .enum-told2 .given .1)) ∙ told (c .before .before)))
+
+same-length-4 : tie.Need-same-length-4
+same-length-4 c = search needs
+
+same-length-5 : tie.Need-same-length-5
+same-length-5 c = search needs
+
+returns-5 : tie.Need-returns-5
+unfolding columnsExist madeColumns
+returns-5 c =
+    let p = c .before .before .before .before in
+    let t = p .before .before .before in
+    let r = clear t in
+    let e = passed r in
+    let l = tested (e .before) in
+    let a = start l .args in
+    λ tables. rw (c .with-table .ensures) (made-group (a .keys) (a .aggregate) (a .column) tables (work (now (a .values)) (now (a .labels))) (a .stack) (fitted l .0) (parts l)
+    (answered (e .before) tables ∙ not-false _ (e .if1 .left)) (sym (ap stepSays (t .enum-told3 .given .1)) ∙ told r) (rw (r .before .before .grouping .ensures) at (p .replace .ensures)))
 
 pub group-spec : {M : Type 1} → statement M
 group-spec =
     tie.close
     (tie.spec
-    fits-requires
-    returns
-    source-requires
-    refusal-requires
+    fit-requires
+    enum-known-columns
     enum-told
+    returns
+    live-table-requires
+    column-formed-requires
     same-length
     returns-2
+    grouping-requires
+    refusal-requires
+    enum-known-refusal
+    enum-told-2
+    enum-told-3
     replace-requires
-    key-count-requires
-    add-width
-    sub-with-table
     with-table-requires
     same-length-2
+    returns-3
     same-length-3
-    returns-3)
+    returns-4
+    same-length-4
+    same-length-5
+    returns-5)

@@ -6,9 +6,8 @@ use native.Mathlib.Omega.{arith}
 use lib.Dec.{eqb}
 use lib.ListN.{drop}
 use borrow.Author.Needs.{needs}
-use Rattle.join.specs.Pairs.{labelsIn}
-use Rattle.memory.specs.Search.{told}
-use Rattle.memory.specs.Steps.{says}
+use Rattle.join.specs.promises.Pairs.{labelsIn}
+use Rattle.cells.specs.promises.Search.{placeSays, says}
 use Rattle.plan.specs.Join.{checkJoin}
 use Rattle.plan.specs.Verdict.{refused, fine, notClear}
 use Rattle.join.proofs.KeyLabels.{key-search, grid-length, in-rows, first-stands, second-stands}
@@ -27,7 +26,7 @@ not-clear-requires c κs = search needs
 
 left-told : (c : tie.After-not-clear)
     → let a = c .before .before .before .args in
-    told 31 0 (c .not-clear .result) ≡ says (notClear (λ i. eqb i (a .left .key)) 31 0 (labelsIn (a .labels .now) (a .left)))
+    placeSays 31 0 (c .not-clear .result) ≡ says (notClear (λ i. eqb i (a .left .key)) 31 0 (labelsIn (a .labels .now) (a .left)))
 left-told c =
     let start = c .before .before .before in
     let sides = start .pre in
@@ -54,7 +53,7 @@ enum-known-second c = search needs
 
 right-told : (c : tie.After-not-clear2)
     → let a = c .before .before .before .before .before .before .before .args in
-    told 31 (a .left .rows) (c .not-clear2 .result) ≡ says (notClear (λ i. eqb i (a .right .key)) 31 (a .left .rows) (labelsIn (a .labels .now) (a .right)))
+    placeSays 31 (a .left .rows) (c .not-clear2 .result) ≡ says (notClear (λ i. eqb i (a .right .key)) 31 (a .left .rows) (labelsIn (a .labels .now) (a .right)))
 right-told c =
     let start = c .before .before .before .before .before .before .before in
     let sides = start .pre in
@@ -64,7 +63,7 @@ right-told c =
 left-fine : (c : tie.After-enum-told)
     → let a = c .before .before .before .before .before .args in
     notClear (λ i. eqb i (a .left .key)) 31 0 (labelsIn (a .labels .now) (a .left)) ≡ fine
-left-fine c = says-is (sym (left-told (c .before .before)) ∙ ap (told 31 0) (c .enum-told .given .1))
+left-fine c = says-is (sym (left-told (c .before .before)) ∙ ap (placeSays 31 0) (c .enum-told .given .1))
 
 returns-2 : tie.Need-returns-2
 unfolding checkJoin
@@ -78,7 +77,7 @@ right-found : (c : tie.After-second)
     notClear (λ i. eqb i (a .right .key)) 31 (a .left .rows) (labelsIn (a .labels .now) (a .right)) ≡ refused 31 (a .left .rows + c .second .given .0 .0) (c .second .given .0 .1 .0)
 right-found c =
     let rows = c .before .before .before .before .before .before .before .before .before .args .left .rows in
-    says-is (sym (right-told (c .before .before)) ∙ ap (told 31 rows) (c .second .given .1))
+    says-is (sym (right-told (c .before .before)) ∙ ap (placeSays 31 rows) (c .second .given .1))
 
 add-numbered : tie.Need-add-numbered
 add-numbered c =

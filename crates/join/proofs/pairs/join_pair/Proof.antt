@@ -4,8 +4,8 @@ use mathlib.Core.Path.{_≡_, _∙_}
 use native.Mathlib.Omega.{arith}
 use borrow.Author.Needs.{needs}
 use borrow.Author.Tests.{not-true, not-false}
-use Rattle.join.specs.Pairs.{width}
-use Rattle.memory.specs.Cells.{cellsOf}
+use Rattle.join.specs.promises.Pairs.{width}
+use Rattle.cells.specs.promises.Work.{work, cellsIn}
 use Rattle.join.proofs.Growing.{keysMatch, keys-match, unmatched, one-too-many, one-made}
 use Rattle.memory.proofs.Stacks.{fits-slot}
 use Rattle.join.proofs.pairs.join_pair.Statement.{statement}
@@ -35,24 +35,24 @@ equal-requires c κs = search needs
 -- the test says whether the keys match
 keys : (c : tie.After-equal)
     → let a = c .before .before .before .before .before .before .args in
-    keysMatch (cellsOf (a .values .now) (a .labels .now)) (a .left) (a .right) (a .at) (a .other) ≡ c .equal .result
+    keysMatch (cellsIn (work (a .values .now) (a .labels .now))) (a .left) (a .right) (a .at) (a .other) ≡ c .equal .result
 keys c =
     let start = c .before .before .before .before .before .before in
     let a = start .args in
-    keys-match (a .values .now) (a .labels .now) (start .pre .0) (a .at) (a .other) (start .pre .1 .0) (start .pre .1 .1) (c .before .before .before .equal-arg .given) (c .before .equal-arg2 .given) (c .equal .ensures)
+    keys-match (work (a .values .now) (a .labels .now)) (start .pre .0) (a .at) (a .other) (start .pre .1 .0) (start .pre .1 .1) (c .before .before .before .equal-arg .given) (c .before .equal-arg2 .given) (c .equal .ensures)
 
 returns : tie.Need-returns
 returns c =
     let start = c .before .before .before .before .before .before .before in
     let a = start .args in
-    unmatched (a .values .now) (a .labels .now) (start .pre .0) (a .at) (a .other) (keys (c .before) ∙ not-true _ (c .if1 .taken)) (start .pre .1 .2)
+    unmatched (work (a .values .now) (a .labels .now)) (start .pre .0) (a .at) (a .other) (keys (c .before) ∙ not-true _ (c .if1 .taken)) (start .pre .1 .2)
 
 returns-2 : tie.Need-returns-2
 returns-2 c =
     let call = c .before .before in
     let start = call .before .before .before .before .before .before in
     let a = start .args in
-    one-too-many (a .values .now) (a .labels .now) (start .pre .0) (a .at) (a .other) (keys call ∙ not-false _ (c .before .if1 .left)) (c .if2 .taken)
+    one-too-many (work (a .values .now) (a .labels .now)) (start .pre .0) (a .at) (a .other) (keys call ∙ not-false _ (c .before .if1 .left)) (c .if2 .taken)
 
 sub-width : tie.Need-sub-width
 sub-width c = search needs
@@ -92,8 +92,8 @@ returns-3 c =
     let call = tests .before .before in
     let start = call .before .before .before .before .before .before in
     let a = start .args in
-    one-made (a .values .now) (a .labels .now) (start .pre .0) (a .at) (a .other) (keys call ∙ not-false _ (tests .before .if1 .left)) (omega (arith, start .pre .1 .2, tests .if2 .left))
-    (written .write-row .ensures .0) (written .write-row .ensures .1)
+    one-made (work (a .values .now) (a .labels .now)) (start .pre .0) (a .at) (a .other) (keys call ∙ not-false _ (tests .before .if1 .left)) (omega (arith, start .pre .1 .2, tests .if2 .left))
+    (written .write-row .ensures .written .is) (written .write-row .ensures .kept)
 
 pub join-pair-spec : {M : Type 1} → statement M
 join-pair-spec =

@@ -6,6 +6,7 @@ use native.Mathlib.Omega.{arith}
 use lib.IntN.{ℤ, pos}
 use lib.ListN.{getD}
 use Rattle.value.specs.Equality.{eqZ}
+use Rattle.cells.specs.promises.Work.{work}
 use Rattle.value.proofs.Machine.{back-is}
 use Rattle.join.proofs.Growing.{none-made}
 use Rattle.join.proofs.Turns.{right-next, rights-skipped, rights-over, sides-kept, Paired}
@@ -14,7 +15,7 @@ use Rattle.join.proofs.pairs.join_row.Tie as tie
 
 abbrev Inv-loop : tie.InvT-loop
 Inv-loop values₀ labels₀ left right row made at rows columns count₀ other₀ i₀ values labels count other i =
-    (i ≤ right .rows) × (count ≤ 256) × (other ≡ right .at + i * right .columns) × (at + left .columns ≤ 6144) × Paired left right values₀ labels₀ made at i count values labels
+    (i ≤ right .rows) × (count ≤ 256) × (other ≡ right .at + i * right .columns) × (at + left .columns ≤ 6144) × Paired left right (work values₀ labels₀) made at i count (work values labels)
 
 abbrev μ-loop : tie.MeasureT-loop
 μ-loop values₀ labels₀ left right row made at rows columns count₀ other₀ i₀ values labels count other i = right .rows - i
@@ -33,7 +34,7 @@ loop-holds c =
       start .pre .1 .1,
       omega (arith, zero-mul (a .right .columns)),
       omega (arith, mul-le-mul-right (a .left .columns) (start .pre .1 .0)),
-      none-made (a .values .now) (a .labels .now) (start .pre .0) (start .pre .1 .1),
+      none-made (work (a .values .now) (a .labels .now)) (start .pre .0) (start .pre .1 .1),
     )
 
 add-key : tie.Need-add-key Inv-loop μ-loop
@@ -76,12 +77,12 @@ place-is c = omega (arith, c .before .before .before .before .before .before .lo
 skip : (c : tie.After-unlike Inv-loop μ-loop)
     → let a = c .before .before .before .before .before .before .before .before .before .before .args in
     let loop = c .before .before .before .before .before .before .loop in
-    Paired (a .left) (a .right) (a .values .now) (a .labels .now) (a .made) (a .left .at + a .row * a .left .columns) (loop .i + c .unlike .result) (loop .count) (loop .values) (loop .labels)
+    Paired (a .left) (a .right) (work (a .values .now) (a .labels .now)) (a .made) (a .left .at + a .row * a .left .columns) (loop .i + c .unlike .result) (loop .count) (work (loop .values) (loop .labels))
 skip c =
     let start = c .before .before .before .before .before .before .before .before .before .before in
     let a = start .args in
     let loop = c .before .before .before .before .before .before .loop in
-    rights-skipped (a .values .now) (a .labels .now) (start .pre .0) (a .left .at + a .row * a .left .columns) (loop .inv .3) (loop .other) (loop .i) (c .unlike .result) (few c) (loop .inv .2) (loop .inv .4) (loop .inv .1)
+    rights-skipped (work (a .values .now) (a .labels .now)) (start .pre .0) (a .left .at + a .row * a .left .columns) (loop .inv .3) (loop .other) (loop .i) (c .unlike .result) (few c) (loop .inv .2) (loop .inv .4) (loop .inv .1)
     (λ j h. ap (λ (z : ℤ). eqZ z (getD (loop .values) (loop .other + a .right .key + j * a .right .columns) (pos 0))) (sym (back-is _ (c .before .before .before .key .given))) ∙ c .unlike .ensures .1 j h)
 
 mul-other : tie.Need-mul-other Inv-loop μ-loop
@@ -101,19 +102,19 @@ join-pair-requires c κs =
     let start = c .before .before .before .before .before .before .before .before .before .before .before .before .before in
     let loop = c .before .before .before .before .before .before .before .before .before .loop in
     let a = start .args in (
-      sides-kept (a .values .now) (a .labels .now) (start .pre .0) (loop .inv .4 .kept),
+      sides-kept (work (a .values .now) (a .labels .now)) (start .pre .0) (loop .inv .4 .kept),
       (loop .inv .3, omega (arith, place-is (c .before .before .before), mul-le-mul-right (a .right .columns) (c .before .before .if1 .taken), start .pre .0 .right-below), loop .inv .1),
     )
 
 -- a turn of the loop
 next : (c : tie.After-join-pair Inv-loop μ-loop)
     → let a = c .before .before .before .before .before .before .before .before .before .before .before .before .before .before .args in
-    Paired (a .left) (a .right) (a .values .now) (a .labels .now) (a .made) (a .left .at + a .row * a .left .columns) (c .before .before .before .before .before .before .before .before .before .before .loop .i + c .before .before .before .before .unlike .result + 1) (c .join-pair .result) (c .join-pair .last .0) (c .join-pair .last .1 .0)
+    Paired (a .left) (a .right) (work (a .values .now) (a .labels .now)) (a .made) (a .left .at + a .row * a .left .columns) (c .before .before .before .before .before .before .before .before .before .before .loop .i + c .before .before .before .before .unlike .result + 1) (c .join-pair .result) (work (c .join-pair .last .0) (c .join-pair .last .1 .0))
 next c =
     let start = c .before .before .before .before .before .before .before .before .before .before .before .before .before .before in
     let a = start .args in
     let loop = c .before .before .before .before .before .before .before .before .before .before .loop in
-    right-next (a .values .now) (a .labels .now) (start .pre .0) (a .left .at + a .row * a .left .columns) (loop .inv .3) (loop .other + c .before .before .before .before .unlike .result * a .right .columns) (loop .i + c .before .before .before .before .unlike .result) (c .before .before .before .if1 .taken) (place-is (c .before .before .before .before)) (skip (c .before .before .before .before)) (loop .inv .1) (c .join-pair .ensures)
+    right-next (work (a .values .now) (a .labels .now)) (start .pre .0) (a .left .at + a .row * a .left .columns) (loop .inv .3) (loop .other + c .before .before .before .before .unlike .result * a .right .columns) (loop .i + c .before .before .before .before .unlike .result) (c .before .before .before .if1 .taken) (place-is (c .before .before .before .before)) (skip (c .before .before .before .before)) (loop .inv .1) (c .join-pair .ensures)
 
 same-length : tie.Need-same-length Inv-loop μ-loop
 same-length c = next (c .before .before .before .before) .kept .as-many-values
@@ -126,7 +127,7 @@ returns c =
     let start = c .before .before .before .before .before .before .before .before .before .before .before .before .before .before .before .before .before .before in
     let a = start .args in
     let loop = c .before .before .before .before .before .before .before .before .before .before .before .before .before .before .loop in
-    rights-over (a .values .now) (a .labels .now) (start .pre .0) (a .left .at + a .row * a .left .columns) (loop .inv .3) (loop .i + c .before .before .before .before .before .before .before .before .unlike .result + 1) (omega (arith, c .before .before .before .before .before .before .before .if1 .taken)) (next (c .before .before .before .before)) (c .if2 .taken)
+    rights-over (work (a .values .now) (a .labels .now)) (start .pre .0) (a .left .at + a .row * a .left .columns) (loop .inv .3) (loop .i + c .before .before .before .before .before .before .before .before .unlike .result + 1) (omega (arith, c .before .before .before .before .before .before .before .if1 .taken)) (next (c .before .before .before .before)) (c .if2 .taken)
 
 add-other-2 : tie.Need-add-other-2 Inv-loop μ-loop
 add-other-2 c =

@@ -2,34 +2,35 @@
 use Prim.Native.Nat.{_+_, _-_, _≤_}
 use mathlib.Core.Path.{_≡_}
 use native.Mathlib.Omega.{arith}
+use Rattle.cells.specs.promises.Work.{work}
 use Rattle.join.proofs.Growing.{none-made}
 use Rattle.join.proofs.Turns.{Joined, sides-kept, left-next, lefts-over}
 use Rattle.join.proofs.pairs.join_rows.Statement.{statement}
 use Rattle.join.proofs.pairs.join_rows.Tie as tie
 
 abbrev Inv-loop : tie.InvT-loop
-Inv-loop values₀ labels₀ left right rows made₀ row₀ values labels made row = (row ≤ left .rows) × (made ≤ 256) × Joined left right values₀ labels₀ row made values labels
+Inv-loop values₀ labels₀ left right rows made₀ row₀ values labels made row = (row ≤ left .rows) × (made ≤ 256) × Joined left right (work values₀ labels₀) row made (work values labels)
 
 abbrev μ-loop : tie.MeasureT-loop
 μ-loop values₀ labels₀ left right rows made₀ row₀ values labels made row = left .rows - row
 
 loop-holds : tie.Need-loop-holds Inv-loop μ-loop
-loop-holds c = (omega arith, omega arith, none-made (c .before .args .values .now) (c .before .args .labels .now) (c .before .pre) (omega arith))
+loop-holds c = (omega arith, omega arith, none-made (work (c .before .args .values .now) (c .before .args .labels .now)) (c .before .pre) (omega arith))
 
 join-row-requires : tie.Need-join-row-requires Inv-loop μ-loop
 join-row-requires c κs =
     let start = c .before .before .before .before .before in
     let loop = c .before .before .before .loop in
-    (sides-kept (start .args .values .now) (start .args .labels .now) (start .pre) (loop .inv .2 .kept), (c .before .before .loop-test .taken, loop .inv .1))
+    (sides-kept (work (start .args .values .now) (start .args .labels .now)) (start .pre) (loop .inv .2 .kept), (c .before .before .loop-test .taken, loop .inv .1))
 
 -- a turn of the loop
 next : (c : tie.After-join-row Inv-loop μ-loop)
     → let a = c .before .before .before .before .before .before .args in
-    Joined (a .left) (a .right) (a .values .now) (a .labels .now) (c .before .before .before .before .loop .row + 1) (c .join-row .result) (c .join-row .last .0) (c .join-row .last .1 .0)
+    Joined (a .left) (a .right) (work (a .values .now) (a .labels .now)) (c .before .before .before .before .loop .row + 1) (c .join-row .result) (work (c .join-row .last .0) (c .join-row .last .1 .0))
 next c =
     let start = c .before .before .before .before .before .before in
     let loop = c .before .before .before .before .loop in
-    left-next (start .args .values .now) (start .args .labels .now) (start .pre) (loop .row) (c .before .before .before .loop-test .taken) (loop .inv .2) (loop .inv .1) (c .join-row .ensures)
+    left-next (work (start .args .values .now) (start .args .labels .now)) (start .pre) (loop .row) (c .before .before .before .loop-test .taken) (loop .inv .2) (loop .inv .1) (c .join-row .ensures)
 
 same-length : tie.Need-same-length Inv-loop μ-loop
 same-length c = next (c .before .before .before .before) .kept .as-many-values
@@ -41,7 +42,7 @@ returns : tie.Need-returns Inv-loop μ-loop
 returns c =
     let start = c .before .before .before .before .before .before .before .before .before .before in
     let row = c .before .before .before .before .before .before .before .before .loop .row in
-    lefts-over (start .args .values .now) (start .args .labels .now) (start .pre) (row + 1) (omega arith) (next (c .before .before .before .before)) (c .if1 .taken)
+    lefts-over (work (start .args .values .now) (start .args .labels .now)) (start .pre) (row + 1) (omega arith) (next (c .before .before .before .before)) (c .if1 .taken)
 
 add-row : tie.Need-add-row Inv-loop μ-loop
 add-row c = omega (arith, c .before .before .before .before .before .before .before .loop-test .taken)

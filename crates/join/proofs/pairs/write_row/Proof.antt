@@ -1,5 +1,6 @@
 -- `join::pairs::write_row` meets its contract. Assumes nothing.
 use borrow.Author.Needs.{needs}
+use Rattle.cells.specs.promises.Work.{work}
 use Rattle.join.proofs.Above.{row-moved}
 use Rattle.join.proofs.pairs.write_row.Statement.{statement}
 use Rattle.join.proofs.pairs.write_row.Tie as tie
@@ -48,9 +49,8 @@ returns c =
     let start = first .before .before .before .before in
     let a = start .args in
     let sides = start .pre .0 in
-    let made = row-moved (a .values .now) (a .labels .now) (a .left .columns) (a .right .columns) (a .right .key) (a .at) (a .other) (a .to) (sides .values-room) (sides .labels-room) (sides .right-key)
-    (start .pre .1 .0) (start .pre .1 .1) (start .pre .1 .2) (first .move-cells .ensures) (second .move-cells2 .ensures) (third .move-cells3 .ensures) in
-    (made .0 .is, made .1)
+    row-moved (work (a .values .now) (a .labels .now)) (a .left .columns) (a .right .columns) (a .right .key) (a .at) (a .other) (a .to) (sides .values-room) (sides .labels-room) (sides .right-key)
+    (start .pre .1 .0) (start .pre .1 .1) (start .pre .1 .2) (first .move-cells .ensures) (second .move-cells2 .ensures) (third .move-cells3 .ensures)
 
 pub write-row-spec : {M : Type 1} → statement M
 write-row-spec =

@@ -1,88 +1,112 @@
 -- `join::step::join` meets its contract. Assumes nothing.
-use Prim.Native.Nat.{ℕ}
 use mathlib.Core.Path.{_≡_, sym, ap, _∙_}
 use mathlib.Core.Bool.{true}
-use mathlib.Core.List.{List, []}
-use native.Mathlib.Omega.{arith}
+use mathlib.Core.List.{[]}
 use lib.ListN.{length}
+use denote.Ref.{now}
 use borrow.Author.Needs.{needs}
-use borrow.Author.Tests.{not-true, not-false}
-use Rattle.join.specs.Pairs.{Sides}
-use Rattle.memory.specs.Search.{told}
-use Rattle.memory.specs.Steps.{fits, widthsOf}
+use Rattle.cells.specs.promises.Search.{says, placeSays}
+use Rattle.cells.specs.promises.Work.{work}
+use Rattle.join.specs.promises.Ends.{sideOf}
+use Rattle.join.specs.promises.Pairs.{labelsIn}
+use Rattle.memory.specs.promises.Stack.{widthsTo}
+use Rattle.memory.specs.promises.Steps.{fits}
+use Rattle.plan.specs.Join.{checkJoin}
+use Rattle.plan.specs.Widths.{columnsExist, madeColumns}
 use Rattle.plan.specs.declared.Step.the-variants.{Join}
-use Rattle.join.proofs.Ending.{key-done, rows-done}
+use Rattle.join.proofs.Ending.{key-done, rows-made-done}
 use Rattle.join.proofs.Meaning.{JoinFits, join-parts, in-labels}
-use Rattle.memory.proofs.Finish.{never-unfit, unfit-done}
+use Rattle.memory.proofs.Finish.{unfit-done, never-unfit, columns-fit, columns-misfit}
 use Rattle.join.proofs.step.join.Statement.{statement}
 use Rattle.join.proofs.step.join.Tie as tie
 
-join-fits-requires : tie.Need-join-fits-requires
-join-fits-requires c κs = search needs
+-- the arguments fit
+abbrev told : tie.After-live-table2 → tie.After-columns
+told c = c .before .before .before
 
-returns : tie.Need-returns
-returns c =
-    let a = c .before .before .before .args in
-    λ tables. unfit-done (Join (a .left) (a .right)) tables (a .values .now) (a .labels .now) (a .stack) (sym (c .before .join-fits .ensures (widthsOf tables)) ∙ not-true _ (c .if1 .taken))
+abbrev start : tie.After-live-table2 → tie.Start
+start c = told c .before .before .before .before
 
-fitting : (c : tie.Else1) (tables : List ℕ)
-    → let a = c .before .before .before .args in
-    fits (Join (a .left) (a .right)) tables (length (a .values .now)) (length (a .labels .now)) (a .stack) ≡ true
-fitting c tables = sym (c .before .join-fits .ensures tables) ∙ not-false _ (c .if1 .left)
+fitted : (c : tie.After-live-table2) → let a = start c .args in
+    (fits (Join (a .left) (a .right)) [] (length (now (a .values))) (length (now (a .labels))) (a .stack) ≡ true)
+    × (told c .columns .given .0 .0 ≡ madeColumns (Join (a .left) (a .right)) [] (widthsTo (a .stack) (a .stack .depth)))
+fitted c = columns-fit _ _ (sym (told c .before .before .fit .ensures) ∙ told c .columns .given .1)
 
-parts : (c : tie.Else1)
-    → let a = c .before .before .before .args in
-    JoinFits (a .left) (a .right) (length (a .values .now)) (length (a .labels .now)) (a .stack)
-parts c = join-parts _ _ [] _ _ _ (fitting c [])
+parts : (c : tie.After-live-table2) → let a = start c .args in
+    JoinFits (a .left) (a .right) (length (now (a .values))) (length (now (a .labels))) (a .stack) (c .before .live-table .result) (c .live-table2 .result) (told c .columns .given .0 .0)
+parts c = let a = start c .args in join-parts (a .left) (a .right) [] _ _ (a .stack) _ _ _ (c .before .live-table .ensures) (c .live-table2 .ensures) (fitted c .0) (fitted c .1)
 
-sub-index : tie.Need-sub-index
-sub-index c = parts (c .before) .two
+-- the search for a key that is not clear
+abbrev searched : tie.After-unclear-key → tie.After-live-table2
+searched c = c .before .before .before .before
 
-side-requires : tie.Need-side-requires
-side-requires c κs = omega (arith, parts (c .before) .ready-is .depth)
+keys : (c : tie.After-unclear-key) → let l = searched c in let a = start l .args in
+    placeSays 31 0 (c .unclear-key .result)
+    ≡ says (checkJoin (a .left) (a .right) (labelsIn (now (a .labels)) (sideOf (l .before .live-table .result) (a .left))) (labelsIn (now (a .labels)) (sideOf (l .live-table2 .result) (a .right))))
+keys c = rw (c .before .before .before .side .ensures, c .before .before .side2 .ensures) at (c .unclear-key .ensures)
 
-add-side : tie.Need-add-side
-add-side c = search needs
+fit-requires : tie.Need-fit-requires
+fit-requires c κs = search needs
 
-side-requires-2 : tie.Need-side-requires-2
-side-requires-2 c κs = omega (arith, parts (c .before .before) .ready-is .depth)
-
-sides : (c : tie.After-side2)
-    → let a = c .before .before .before .before .before .before .args in
-    Sides (length (a .values .now)) (length (a .labels .now)) (c .before .side .result) (c .side2 .result)
-sides c = rw (c .before .side .ensures, c .side2 .ensures) (parts (c .before .before .before) .sides)
-
-unclear-key-requires : tie.Need-unclear-key-requires
-unclear-key-requires c κs = in-labels (sides (c .before))
-
-enum-known-row : tie.Need-enum-known-row
-enum-known-row c = search needs
+enum-known-columns : tie.Need-enum-known-columns
+enum-known-columns c = search needs
 
 enum-told : tie.Need-enum-told
 enum-told c = search needs
 
+returns : tie.Need-returns
+unfolding columnsExist madeColumns
+returns c =
+    let a = c .before .before .before .before .args in
+    λ tables. unfit-done (Join (a .left) (a .right)) tables _ _ (columns-misfit _ _ (sym (c .before .before .fit .ensures) ∙ c .enum-told .given .1))
+
+live-table-requires : tie.Need-live-table-requires
+live-table-requires c κs = search needs
+
+live-table-requires-2 : tie.Need-live-table-requires-2
+live-table-requires-2 c κs = search needs
+
+side-requires : tie.Need-side-requires
+side-requires c κs = search needs
+
+side-requires-2 : tie.Need-side-requires-2
+side-requires-2 c κs = search needs
+
+unclear-key-requires : tie.Need-unclear-key-requires
+unclear-key-requires c κs = rw (c .before .before .side .ensures, c .before .side2 .ensures) (in-labels (parts (c .before .before .before) .sides))
+
+enum-known-row : tie.Need-enum-known-row
+enum-known-row c = search needs
+
 enum-told-2 : tie.Need-enum-told-2
 enum-told-2 c = search needs
 
+enum-told-3 : tie.Need-enum-told-3
+enum-told-3 c = search needs
+
 make-table-requires : tie.Need-make-table-requires
-make-table-requires c κs = sides (c .before .before .before .before .before .before)
+make-table-requires c κs =
+    let n = c .before .before .before .before in
+    let p = parts (searched n) in
+    rw (n .before .before .before .side .ensures, n .before .before .side2 .ensures) (p .sides, p .width-is)
 
 same-length : tie.Need-same-length
 same-length c = search needs
 
 returns-2 : tie.Need-returns-2
+unfolding columnsExist madeColumns
 returns-2 c =
-    let call = c .before .before .before in
-    let tests = call .before .before .before .before .before in
-    let a = tests .before .before .before .args in
-    λ tables. key-done tables (a .values .now) (a .labels .now) (a .stack) (a .left) (a .right) (fitting tests (widthsOf tables)) (call .before .before .before .side .result) (call .before .before .side2 .result)
-    (call .before .before .before .side .ensures) (call .before .before .side2 .ensures) (sym (ap (told 31 0) (c .before .row .given .1)) ∙ call .unclear-key .ensures)
+    let refused = c in
+    let n = refused .before .before .before in
+    let l = searched n in
+    let a = start l .args in
+    λ tables. key-done (a .left) (a .right) tables (work (now (a .values)) (now (a .labels))) (a .stack) (fitted l .0) (parts l) (ap (placeSays 31 0) (sym (refused .before .row .given .1)) ∙ keys n)
 
 same-length-2 : tie.Need-same-length-2
 same-length-2 c = search needs
 
 returns-3 : tie.Need-returns-3
-returns-3 c = λ tables. absurd (never-unfit (sym (ap (told 31 0) (c .enum-told .given .1)) ∙ c .before .before .unclear-key .ensures))
+returns-3 c = absurd (never-unfit (ap (placeSays 31 0) (sym (c .enum-told2 .given .1)) ∙ keys (c .before .before)))
 
 same-length-3 : tie.Need-same-length-3
 same-length-3 c = search needs
@@ -91,28 +115,31 @@ same-length-4 : tie.Need-same-length-4
 same-length-4 c = search needs
 
 returns-4 : tie.Need-returns-4
+unfolding columnsExist madeColumns
 returns-4 c =
-    let made = c .before .before .before in
-    let call = made .before .before .before .before .before in
-    let tests = call .before .before .before .before .before in
-    let a = tests .before .before .before .args in
-    λ tables. rows-done tables (a .values .now) (a .labels .now) (a .stack) (a .left) (a .right) (fitting tests (widthsOf tables)) (call .before .before .before .side .result) (call .before .before .side2 .result)
-    (call .before .before .before .side .ensures) (call .before .before .side2 .ensures) (sym (ap (told 31 0) (made .before .before .before .enum-told2 .given .1)) ∙ call .unclear-key .ensures) (made .make-table .ensures)
+    let m = c .before .before .before in
+    let n = m .before .before .before .before .before in
+    let l = searched n in
+    let a = start l .args in
+    λ tables. rows-made-done (a .left) (a .right) tables (work (now (a .values)) (now (a .labels))) (a .stack) (fitted l .0) (parts l)
+    (ap (placeSays 31 0) (sym (m .before .before .before .enum-told3 .given .1)) ∙ keys n) (rw (n .before .before .before .side .ensures, n .before .before .side2 .ensures) at (m .make-table .ensures))
 
 pub join-spec : {M : Type 1} → statement M
 join-spec =
     tie.close
     (tie.spec
-    join-fits-requires
+    fit-requires
+    enum-known-columns
+    enum-told
     returns
-    sub-index
+    live-table-requires
+    live-table-requires-2
     side-requires
-    add-side
     side-requires-2
     unclear-key-requires
     enum-known-row
-    enum-told
     enum-told-2
+    enum-told-3
     make-table-requires
     same-length
     returns-2

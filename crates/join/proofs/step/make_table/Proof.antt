@@ -1,8 +1,11 @@
 -- `join::step::make_table` meets its contract. Assumes nothing.
+use mathlib.Core.Path.{_∙_}
 use native.Mathlib.Omega.{arith}
+use denote.Ref.{now}
 use borrow.Author.Needs.{needs}
-use Rattle.join.specs.Pairs.{width}
-use Rattle.join.proofs.Ending.{finished-over, finished-made}
+use Rattle.cells.specs.promises.Work.{work}
+use Rattle.cells.proofs.CellLaws.{values-moved, labels-moved}
+use Rattle.join.proofs.Ending.{finished-over, rows-values, rows-labels, finished-made}
 use Rattle.memory.proofs.Stacks.{fits-slot}
 use Rattle.join.proofs.step.make_table.Statement.{statement}
 use Rattle.join.proofs.step.make_table.Tie as tie
@@ -18,20 +21,15 @@ same-length-2 c = search needs
 
 returns : tie.Need-returns
 returns c =
-    let start = c .before .before .before .before .before .before .before .before in
-    let a = start .args in
-    finished-over (a .stack) (a .index) (a .left) (a .right) (a .values .now) (a .labels .now) (start .pre) (c .before .before .before .before .join-rows .ensures) (c .if1 .taken)
-
-sub-columns : tie.Need-sub-columns
-sub-columns c = search needs
-
-add-columns : tie.Need-add-columns
-add-columns c = search needs
+    let made = c .before .before .before .before in
+    let start = made .before .before .before .before in
+    finished-over (start .args .stack) (start .args .index) (start .pre .0) (made .join-rows .ensures) (c .if1 .taken)
 
 mul-move-cells : tie.Need-mul-move-cells
 mul-move-cells c =
-    let start = c .before .before .before .before .before .before .before .before .before .before .before .before in
-    omega (arith, fits-slot (c .before .before .before .before .before .before .before .before .join-rows .result) (width (start .args .left) (start .args .right)) (c .before .before .before .before .if1 .left) (start .pre .few))
+    let t = c .before .before in
+    let start = t .before .before .before .before .before .before .before .before in
+    omega (arith, start .pre .1, fits-slot (t .before .before .before .before .join-rows .result) (start .args .columns) (t .if1 .left) (omega (arith, start .pre .1, start .pre .0 .few)))
 
 move-cells-requires : tie.Need-move-cells-requires
 move-cells-requires c κs = search needs
@@ -47,13 +45,18 @@ same-length-4 c = search needs
 
 returns-2 : tie.Need-returns-2
 returns-2 c =
-    let test = c .before .before .before .before .before .before .before .before .before in
-    let rows = test .before .before .before .before in
-    let start = rows .before .before .before .before in
+    let moves = c .before .before .before .before in
+    let t = moves .before .before .before in
+    let made = t .before .before .before .before in
+    let start = made .before .before .before .before in
     let a = start .args in
-    let move = c .before .before .before .before .move-cells in
-    finished-made (a .stack) (a .index) (a .left) (a .right) (a .values .now) (a .labels .now) (start .pre) (rows .join-rows .ensures) (test .if1 .left) (move .result) (c .with-table .result)
-    (move .ensures .0) (move .ensures .1 .0) (move .ensures .1 .1) (c .with-table .ensures)
+    let w = work (made .join-rows .last .0) (made .join-rows .last .1 .0) in
+    let g = made .join-rows .ensures in
+    let v = rows-values (a .stack) (a .index) (start .pre .0) g (t .if1 .left) in
+    let l = rows-labels (a .stack) (a .index) (start .pre .0) g (t .if1 .left) in
+    let m = rw (start .pre .1) at (moves .move-cells .ensures) in
+    rw (values-moved w v l (m .0) (m .1 .0) (m .1 .1), labels-moved w v l (m .0) (m .1 .0) (m .1 .1))
+    (finished-made (a .stack) (a .index) (start .pre .0) g (t .if1 .left) (rw (start .pre .1) at (c .with-table .ensures)))
 
 pub make-table-spec : {M : Type 1} → statement M
 make-table-spec =
@@ -63,8 +66,6 @@ make-table-spec =
     same-length
     same-length-2
     returns
-    sub-columns
-    add-columns
     mul-move-cells
     move-cells-requires
     with-table-requires

@@ -1,53 +1,51 @@
 -- `keep::keeping::keep` meets its contract. Assumes nothing.
-use mathlib.Core.Path.{sym, _∙_}
+use mathlib.Core.Path.{_≡_, sym, _∙_}
+use mathlib.Core.Bool.{true}
+use lib.ListN.{length}
 use mathlib.Core.List.{[]}
-use native.Mathlib.Omega.{arith}
+use denote.Ref.{now}
 use borrow.Author.Needs.{needs}
-use borrow.Author.Tests.{not-true, not-false}
-use Rattle.memory.specs.Steps.{widthsOf}
+use Rattle.cells.specs.promises.Work.{work}
+use Rattle.memory.specs.promises.Stack.{widthsTo}
+use Rattle.memory.specs.promises.Steps.{fits}
+use Rattle.plan.specs.Widths.{columnsExist, madeColumns}
 use Rattle.plan.specs.declared.Step.the-variants.{Keep}
-use Rattle.memory.proofs.Finish.{unfit-done}
-use Rattle.memory.proofs.TopTable.{top-inside}
-use Rattle.keep.proofs.KeepMeaning.{keep-parts, keep-made}
+use Rattle.memory.proofs.Finish.{unfit-done, columns-fit, columns-misfit}
+use Rattle.keep.proofs.KeepMeaning.{KeepFits, keep-parts, keep-made}
 use Rattle.keep.proofs.keeping.keep.Statement.{statement}
 use Rattle.keep.proofs.keeping.keep.Tie as tie
-use denote.Ref.{now}
 
-keep-fits-requires : tie.Need-keep-fits-requires
-keep-fits-requires c κs = search needs
+-- the arguments fit
+abbrev start : tie.After-live-table → tie.Start
+start c = c .before .before .before .before .before .before
+
+fitted : (c : tie.After-live-table) → let a = start c .args in
+    (fits (Keep (a .mask)) [] (length (now (a .values))) (length (now (a .labels))) (a .stack) ≡ true)
+    × (c .before .before .columns .given .0 .0 ≡ madeColumns (Keep (a .mask)) [] (widthsTo (a .stack) (a .stack .depth)))
+fitted c = columns-fit _ _ (sym (c .before .before .before .before .fit .ensures) ∙ c .before .before .columns .given .1)
+
+parts : (c : tie.After-live-table) → let a = start c .args in
+    KeepFits (a .mask) (length (now (a .values))) (length (now (a .labels))) (a .stack) (c .live-table .result) (c .before .before .columns .given .0 .0)
+parts c = let a = start c .args in keep-parts (a .mask) [] _ _ (a .stack) _ _ (c .live-table .ensures) (fitted c .0) (fitted c .1)
+
+fit-requires : tie.Need-fit-requires
+fit-requires c κs = search needs
+
+enum-known-columns : tie.Need-enum-known-columns
+enum-known-columns c = search needs
+
+enum-told : tie.Need-enum-told
+enum-told c = search needs
 
 returns : tie.Need-returns
-returns c = λ tables. unfit-done (Keep (c .before .before .before .args .mask)) tables _ _ _ (sym (c .before .keep-fits .ensures (widthsOf tables)) ∙ not-true _ (c .if1 .taken))
+unfolding columnsExist madeColumns
+returns c = λ tables. unfit-done (Keep (c .before .before .before .before .args .mask)) tables _ _ (columns-misfit _ _ (sym (c .before .before .fit .ensures) ∙ c .enum-told .given .1))
 
-sub-slot : tie.Need-sub-slot
-sub-slot c = (keep-parts (c .before .before .before .before .args .mask) [] _ _ _ (sym (c .before .before .keep-fits .ensures []) ∙ not-false _ (c .before .if1 .left))) .some
-
-mul-rows : tie.Need-mul-rows
-mul-rows c = omega (arith, keep-parts (c .before .before .before .before .before .before .args .mask) [] _ _ _ (sym (c .before .before .before .before .keep-fits .ensures []) ∙ not-false _ (c .before .before .before .if1 .left)))
-
-array-read-rows : tie.Need-array-read-rows
-array-read-rows c = omega (arith, keep-parts (c .before .before .before .before .before .before .args .mask) [] _ _ _ (sym (c .before .before .before .before .keep-fits .ensures []) ∙ not-false _ (c .before .before .before .if1 .left)))
-
-mul-columns : tie.Need-mul-columns
-mul-columns c = omega (arith, keep-parts (c .before .before .before .before .before .before .args .mask) [] _ _ _ (sym (c .before .before .before .before .keep-fits .ensures []) ∙ not-false _ (c .before .before .before .if1 .left)))
-
-array-read-columns : tie.Need-array-read-columns
-array-read-columns c = omega (arith, keep-parts (c .before .before .before .before .before .before .args .mask) [] _ _ _ (sym (c .before .before .before .before .keep-fits .ensures []) ∙ not-false _ (c .before .before .before .if1 .left)))
-
-mul-at : tie.Need-mul-at
-mul-at c = omega (arith, keep-parts (c .before .before .before .before .before .before .args .mask) [] _ _ _ (sym (c .before .before .before .before .keep-fits .ensures []) ∙ not-false _ (c .before .before .before .if1 .left)))
+live-table-requires : tie.Need-live-table-requires
+live-table-requires c κs = search needs
 
 keep-rows-requires : tie.Need-keep-rows-requires
-keep-rows-requires c κs =
-    let a = c .before .before .before .before .before .before .before .before .args in
-    let parts = keep-parts (c .before .before .before .before .before .before .before .before .args .mask) [] _ _ _ (sym (c .before .before .before .before .before .before .keep-fits .ensures []) ∙ not-false _ (c .before .before .before .before .before .if1 .left)) in
-    top-inside (now (a .values)) (now (a .labels)) (a .stack) (parts .is-ready) (parts .some)
-
-kept-count-requires : tie.Need-kept-count-requires
-kept-count-requires c κs =
-    let a = c .before .before .before .before .before .before .before .before .before .before .before .before .args in
-    let parts = keep-parts (c .before .before .before .before .before .before .before .before .before .before .before .before .args .mask) [] _ _ _ (sym (c .before .before .before .before .before .before .before .before .before .before .keep-fits .ensures []) ∙ not-false _ (c .before .before .before .before .before .before .before .before .before .if1 .left)) in
-    top-inside (now (a .values)) (now (a .labels)) (a .stack) (parts .is-ready) (parts .some) .few-columns
+keep-rows-requires c κs = parts (c .before .before) .inside-is
 
 with-table-requires : tie.Need-with-table-requires
 with-table-requires c κs = search needs
@@ -59,26 +57,22 @@ same-length-2 : tie.Need-same-length-2
 same-length-2 c = search needs
 
 returns-2 : tie.Need-returns-2
+unfolding columnsExist madeColumns
 returns-2 c =
-    let a = c .before .before .before .before .before .before .before .before .before .before .before .before .before .before .args in
-    let parts = keep-parts (c .before .before .before .before .before .before .before .before .before .before .before .before .before .before .args .mask) [] _ _ _ (sym (c .before .before .before .before .before .before .before .before .before .before .before .before .keep-fits .ensures []) ∙ not-false _ (c .before .before .before .before .before .before .before .before .before .before .before .if1 .left)) in
-    λ tables. keep-made (a .mask) tables (now (a .values)) (now (a .labels)) (a .stack) (parts .is-ready) (parts .some) (sym (c .before .before .before .before .before .before .before .before .before .before .before .before .keep-fits .ensures (widthsOf tables)) ∙ not-false _ (c .before .before .before .before .before .before .before .before .before .before .before .if1 .left)) _ _ _ _
-    (c .before .before .before .before .before .keep-rows .ensures) (c .before .kept-count .ensures) (c .with-table .ensures)
+    let l = c .before .before .before .before .before .before .before in
+    let a = start l .args in
+    λ tables. rw (c .with-table .ensures) (keep-made (a .mask) tables (work (now (a .values)) (now (a .labels))) (a .stack) (fitted l .0) (parts l) (c .before .before .before .before .keep-rows .ensures))
 
 pub keep-spec : {M : Type 1} → statement M
 keep-spec =
     tie.close
     (tie.spec
-    keep-fits-requires
+    fit-requires
+    enum-known-columns
+    enum-told
     returns
-    sub-slot
-    mul-rows
-    array-read-rows
-    mul-columns
-    array-read-columns
-    mul-at
+    live-table-requires
     keep-rows-requires
-    kept-count-requires
     with-table-requires
     same-length
     same-length-2

@@ -4,13 +4,14 @@ use mathlib.Core.Path.{_≡_}
 use mathlib.Core.Logic.{⊎-elim}
 use native.Mathlib.Omega.{arith}
 use Rattle.keep.proofs.KeepLoop.{KeepingRow, row-begins, cell-kept, cell-left, row-ends}
-use Rattle.memory.proofs.Masks.{bit-one, bit-none}
+use Rattle.cells.specs.promises.Work.{work}
+use Rattle.cells.proofs.Masks.{bit-one, bit-none}
 use Rattle.value.proofs.Machine.{back-is}
 use Rattle.keep.proofs.keeping.keep_row.Statement.{statement}
 use Rattle.keep.proofs.keeping.keep_row.Tie as tie
 
 abbrev Inv-loop : tie.InvT-loop
-Inv-loop values₀ labels₀ from to columns mask next₀ column₀ values labels next column = KeepingRow mask from to columns values₀ labels₀ values labels next column
+Inv-loop values₀ labels₀ from to columns mask next₀ column₀ values labels next column = KeepingRow mask from to columns (work values₀ labels₀) (work values labels) next column
 
 abbrev μ-loop : tie.MeasureT-loop
 μ-loop values₀ labels₀ from to columns mask next₀ column₀ values labels next column = columns - column
@@ -18,7 +19,7 @@ abbrev μ-loop : tie.MeasureT-loop
 loop-holds : tie.Need-loop-holds Inv-loop μ-loop
 loop-holds c =
     let p = c .pre in
-    row-begins _ _ _ _ _ _ (p .0) (p .2) (p .3) (p .4)
+    row-begins (p .0) (p .2) (p .3) (p .4)
 
 cast-if1 : tie.Need-cast-if1 Inv-loop μ-loop
 cast-if1 c = omega arith
@@ -73,8 +74,8 @@ loop-again c =
     let p = start .pre in
     let h = c .before .loop-test .taken in
     ⊎-elim
-    (λ w. rw (w .3, w .4, w .5, back-is _ (w .1 .given)) (cell-kept (a .mask) (a .from) (a .to) (a .columns) (a .values .now) (a .labels .now) (p .0) (p .2) (p .3) (p .4) (l .inv) h (bit-one (a .mask) (l .column) (w .0 .taken))))
-    (λ w. rw (w .1, w .2, w .3) (cell-left (a .mask) (a .from) (a .to) (a .columns) (a .values .now) (a .labels .now) (p .0) (p .2) (p .3) (p .4) (l .inv) h (bit-none (a .mask) (l .column) (w .0 .left)))) (c .if1 .came)
+    (λ w. rw (w .3, w .4, w .5, back-is _ (w .1 .given)) (cell-kept (p .0) (p .2) (p .3) (p .4) (l .inv) h (bit-one (a .mask) (l .column) (w .0 .taken))))
+    (λ w. rw (w .1, w .2, w .3) (cell-left (p .0) (p .2) (p .3) (p .4) (l .inv) h (bit-none (a .mask) (l .column) (w .0 .left)))) (c .if1 .came)
 
 same-length : tie.Need-same-length Inv-loop μ-loop
 same-length c = c .before .loop .inv .as-many-values
@@ -86,7 +87,7 @@ returns : tie.Need-returns Inv-loop μ-loop
 returns c =
     let l = c .before .loop in
     let e : l .column ≡ c .before .before .args .columns = omega (arith, l .inv .column-le) in
-    row-ends _ _ _ _ _ _ e (l .inv)
+    row-ends e (l .inv)
 
 pub keep-row-spec : {M : Type 1} → statement M
 keep-row-spec =

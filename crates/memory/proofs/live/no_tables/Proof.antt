@@ -1,6 +1,6 @@
 -- `memory::live::no_tables` meets its contract. Assumes nothing.
 use mathlib.Core.Path.{refl}
-use Rattle.memory.specs.Stack.{noTables}
+use Rattle.memory.specs.promises.Stack.{noTables}
 use Rattle.memory.proofs.live.no_tables.Statement.{statement}
 use Rattle.memory.proofs.live.no_tables.Tie as tie
 

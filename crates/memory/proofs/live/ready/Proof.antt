@@ -1,7 +1,7 @@
 -- `memory::live::ready` meets its contract. Assumes nothing.
 use mathlib.Core.Path.{refl}
 use borrow.Author.Needs.{needs}
-use Rattle.memory.specs.Stack.{ready}
+use Rattle.memory.specs.promises.Stack.{ready}
 use Rattle.memory.proofs.live.ready.Statement.{statement}
 use Rattle.memory.proofs.live.ready.Tie as tie
 

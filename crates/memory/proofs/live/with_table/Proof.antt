@@ -2,7 +2,7 @@
 use native.Mathlib.Numerals.{add-one}
 use borrow.Author.Needs.{needs}
 use borrow.Author.Tests.{lt-ltb, le-ltb}
-use Rattle.memory.specs.Stack.{withTable}
+use Rattle.memory.specs.promises.Stack.{withTable}
 use Rattle.memory.proofs.live.with_table.Statement.{statement}
 use Rattle.memory.proofs.live.with_table.Tie as tie
 

@@ -1,20 +1,38 @@
 -- `scan::scanning::scan` meets its contract. Assumes nothing.
-use mathlib.Core.Path.{sym, _∙_}
+use mathlib.Core.Path.{_≡_, sym, _∙_}
+use mathlib.Core.Bool.{true}
 use native.Mathlib.Omega.{arith}
+use lib.ListN.{length}
 use denote.Ref.{now}
-use borrow.Author.Tests.{not-true, not-false}
-use Rattle.plan.specs.declared.Step.the-variants.{Scan}
-use Rattle.memory.proofs.Finish.{unfit-done}
-use Rattle.scan.proofs.ScanMeaning.{scan-parts, scan-answer, scan-made, cells-differ, shape-of-cells}
 use borrow.Author.Needs.{needs}
+use borrow.Author.Tests.{not-true, not-false}
+use Rattle.cells.specs.promises.Work.{work}
+use Rattle.plan.specs.declared.Step.the-variants.{Scan}
+use Rattle.scan.specs.promises.Scanning.{scanFits}
+use Rattle.memory.proofs.Finish.{unfit-done}
+use Rattle.scan.proofs.ScanMeaning.{ScanFits, scan-parts, scan-answer, scan-after, scan-made, cells-differ, shape-of-cells}
 use Rattle.scan.proofs.scanning.scan.Statement.{statement}
 use Rattle.scan.proofs.scanning.scan.Tie as tie
+
+-- the arguments fit
+abbrev start : tie.Else1 → tie.Start
+start c = c .before .before .before .before
+
+fit : (c : tie.Else1) → let a = start c .args in scanFits (now (a .container)) (a .table) (length (now (a .values))) (length (now (a .labels))) (a .stack) ≡ true
+fit c = sym (c .before .scan-fits .ensures .0) ∙ not-false _ (c .if1 .left)
+
+parts : (c : tie.Else1) → let a = start c .args in ScanFits (now (a .container)) (a .table) (length (now (a .values))) (length (now (a .labels))) (a .stack)
+parts c = let a = start c .args in scan-parts (now (a .container)) (a .table) _ _ (a .stack) (fit c)
+
+-- the cells were read
+abbrev before-read : tie.After-read-cells → tie.Else1
+before-read c = c .before .before .before .before
 
 scan-fits-requires : tie.Need-scan-fits-requires
 scan-fits-requires c κs = search needs
 
 returns : tie.Need-returns
-returns c = unfit-done (Scan (c .before .before .before .before .args .table)) _ _ _ _ (sym (c .before .scan-fits .ensures .0) ∙ not-true _ (c .if1 .taken))
+returns c = unfit-done (Scan (c .before .before .before .before .args .table)) _ _ _ (sym (c .before .scan-fits .ensures .0) ∙ not-true _ (c .if1 .taken))
 
 add-part : tie.Need-add-part
 add-part c = omega (arith, c .before .scan-fits .ensures .1 (not-false _ (c .if1 .left)))
@@ -23,9 +41,7 @@ part-requires : tie.Need-part-requires
 part-requires c κs = search needs
 
 mul-read-cells : tie.Need-mul-read-cells
-mul-read-cells c =
-    let a = c .before .before .before .before .before .before .before .args in
-    omega (arith, (scan-parts (now (a .container)) (a .table) _ _ (a .stack) (sym (c .before .before .before .before .scan-fits .ensures .0) ∙ not-false _ (c .before .before .before .if1 .left))) .room)
+mul-read-cells c = omega (arith, parts (c .before .before .before) .room-left)
 
 read-cells-requires : tie.Need-read-cells-requires
 read-cells-requires c κs = search needs
@@ -47,12 +63,14 @@ same-length-2 c = search needs
 
 returns-2 : tie.Need-returns-2
 returns-2 c =
-    let a = c .before .before .before .before .before .before .before .before .before .before .before .before .before .before .before .args in
-    let f = scan-parts (now (c .before .before .before .before .before .before .before .before .before .before .before .before .before .before .before .args .container)) (c .before .before .before .before .before .before .before .before .before .before .before .before .before .before .before .args .table) _ _ (c .before .before .before .before .before .before .before .before .before .before .before .before .before .before .before .args .stack) (sym (c .before .before .before .before .before .before .before .before .before .before .before .before .scan-fits .ensures .0) ∙ not-false _ (c .before .before .before .before .before .before .before .before .before .before .before .if1 .left)) in
-    let read = c .before .before .before .before .before .before .before .read-cells in
-    let part-is = c .before .before .before .before .before .before .before .before .before .before .part .ensures in
-    scan-made (now (a .container)) (a .table) (now (a .values)) (now (a .labels)) (a .stack) f (sym (c .before .before .before .before .before .before .before .before .before .before .before .before .scan-fits .ensures .0) ∙ not-false _ (c .before .before .before .before .before .before .before .before .before .before .before .if1 .left)) _ _ _ _ _ (rw part-is at (read .ensures))
-    (shape-of-cells (sym (c .before .before .shape .given .1) ∙ scan-answer (now (a .container)) (a .table) (now (a .values)) (now (a .labels)) (a .stack) f _ _ _ (rw part-is at (read .ensures)))) (c .with-table .ensures)
+    let r = c .before .before .before .before .before .before .before in
+    let e = before-read r in
+    let a = start e .args in
+    let w = work (now (a .values)) (now (a .labels)) in
+    let read = rw (r .before .before .before .part .ensures) at (r .read-cells .ensures) in
+    let after = scan-after (now (a .container)) (a .table) w (a .stack) (parts e) read in
+    let shaped = shape-of-cells (sym (c .before .before .shape .given .1) ∙ scan-answer (now (a .container)) (a .table) w (a .stack) (parts e) read) in
+    scan-made (now (a .container)) (a .table) w (a .stack) (parts e) (fit e) shaped (c .with-table .ensures) after
 
 same-length-3 : tie.Need-same-length-3
 same-length-3 c = search needs
@@ -62,9 +80,11 @@ same-length-4 c = search needs
 
 returns-3 : tie.Need-returns-3
 returns-3 c =
-    let a = c .before .before .before .before .before .before .before .before .before .before .before .before .before .args in
-    let f = scan-parts (now (c .before .before .before .before .before .before .before .before .before .before .before .before .before .args .container)) (c .before .before .before .before .before .before .before .before .before .before .before .before .before .args .table) _ _ (c .before .before .before .before .before .before .before .before .before .before .before .before .before .args .stack) (sym (c .before .before .before .before .before .before .before .before .before .before .scan-fits .ensures .0) ∙ not-false _ (c .before .before .before .before .before .before .before .before .before .if1 .left)) in
-    absurd (cells-differ (sym (c .enum-told .given .1) ∙ scan-answer (now (a .container)) (a .table) (now (a .values)) (now (a .labels)) (a .stack) f _ _ _ (rw (c .before .before .before .before .before .before .before .before .part .ensures) at (c .before .before .before .before .before .read-cells .ensures))))
+    let r = c .before .before .before .before .before in
+    let e = before-read r in
+    let a = start e .args in
+    absurd (cells-differ (sym (c .enum-told .given .1)
+    ∙ scan-answer (now (a .container)) (a .table) (work (now (a .values)) (now (a .labels))) (a .stack) (parts e) (rw (r .before .before .before .part .ensures) at (r .read-cells .ensures))))
 
 pub scan-spec : {M : Type 1} → statement M
 scan-spec =

@@ -7,7 +7,7 @@ use denote.Ref.{now}
 use borrow.Author.Tests.{not-true, not-false, lt-ltb, le-ltb}
 use Rattle.container.specs.Layout.{partCount, partOf}
 use Rattle.plan.specs.Widths.{enoughTables, columnsExist, madeColumns}
-use Rattle.scan.specs.Scanning.{cellsFit}
+use Rattle.scan.specs.promises.Scanning.{cellsFit}
 use Rattle.scan.proofs.ScanMeaning.{narrow-twice}
 use Rattle.scan.proofs.Tables.{widths-count, width-is}
 use borrow.Author.Needs.{needs}

@@ -6,8 +6,9 @@ use lib.IntN.{pos}
 use lib.ListN.{length, take, drop, length-set}
 use borrow.Author.Needs.{needs}
 use borrow.Author.Tests.{not-true, not-false, lt-leb, le-leb}
-use Rattle.memory.proofs.CellLaws.{within-le, le-within}
-use Rattle.memory.proofs.Written.{Written, nothing-written}
+use Rattle.cells.proofs.CellLaws.{within-le, le-within}
+use Rattle.cells.specs.promises.Written.{Written}
+use Rattle.cells.proofs.Written.{nothing-written}
 use Rattle.tally.proofs.Filled.{next-copied, all-copied}
 use Rattle.value.proofs.Machine.{back-is}
 use Rattle.tally.proofs.output.copy_out.Statement.{statement}

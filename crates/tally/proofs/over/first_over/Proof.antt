@@ -7,12 +7,12 @@ use native.Mathlib.Omega.{arith}
 use lib.ListN.{length, drop}
 use borrow.Author.Needs.{needs}
 use borrow.Author.Tests.{not-true, not-false}
-use Rattle.memory.specs.Search.{tableWithin}
-use Rattle.memory.specs.Steps.{says}
-use Rattle.memory.specs.declared.Place.the-variants.{Nowhere}
+use Rattle.cells.specs.promises.Search.{tableWithin}
+use Rattle.cells.specs.promises.Search.{says}
+use Rattle.cells.specs.declared.Place.the-variants.{Nowhere}
 use Rattle.plan.specs.Verdict.{orElse, refuseIf}
 use Rattle.tally.specs.Over.{firstOverIn}
-use Rattle.memory.proofs.Searching.{within-table, cell-inside}
+use Rattle.cells.proofs.Searching.{within-table, cell-inside}
 use Rattle.tally.proofs.Overs.{rowsLeft, cellsLeft, search-begins, row-begins, cell-next, row-ends, search-ends}
 use Rattle.value.proofs.Machine.{back-is}
 use Rattle.tally.proofs.over.first_over.Statement.{statement}

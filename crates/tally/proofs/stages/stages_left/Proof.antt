@@ -7,9 +7,9 @@ use native.Mathlib.Omega.{arith}
 use lib.ListN.{length, take, drop}
 use borrow.Author.Needs.{needs}
 use borrow.Author.Tests.{not-true, not-false}
-use Rattle.memory.specs.Search.{tableWithin}
+use Rattle.cells.specs.promises.Search.{tableWithin}
 use Rattle.plan.specs.Trace.{stagesIn}
-use Rattle.memory.proofs.Searching.{within-table}
+use Rattle.cells.proofs.Searching.{within-table}
 use Rattle.tally.proofs.Sums.{stages-flat, one-counted, at-most-four}
 use Rattle.tally.proofs.stages.stages_left.Statement.{statement}
 use Rattle.tally.proofs.stages.stages_left.Tie as tie

@@ -6,7 +6,8 @@ use native.Mathlib.Omega.{arith}
 use lib.IntN.{pos}
 use lib.ListN.{length, set, replicate, length-set}
 use borrow.Author.Tests.{lt-leb, le-leb}
-use Rattle.memory.proofs.Written.{Written, nothing-written}
+use Rattle.cells.specs.promises.Written.{Written}
+use Rattle.cells.proofs.Written.{nothing-written}
 use Rattle.tally.proofs.Filled.{next-filled, all-filled}
 use Rattle.tally.proofs.zeros.clear_memory.Statement.{statement}
 use Rattle.tally.proofs.zeros.clear_memory.Tie as tie

@@ -1,72 +1,80 @@
 -- `union::uniting::union` meets its contract. Assumes nothing.
-use mathlib.Core.Path.{sym, _∙_}
+use mathlib.Core.Path.{_≡_, sym, _∙_}
+use mathlib.Core.Bool.{true}
 use mathlib.Core.List.{[]}
 use native.Mathlib.Omega.{arith}
+use lib.ListN.{length}
+use denote.Ref.{now}
 use borrow.Author.Needs.{needs}
-use borrow.Author.Tests.{not-true, not-false}
-use Rattle.memory.specs.Steps.{widthsOf}
+use Rattle.cells.specs.promises.Work.{work}
+use Rattle.memory.specs.promises.Stack.{widthsTo}
+use Rattle.memory.specs.promises.Steps.{fits}
+use Rattle.plan.specs.Widths.{columnsExist, madeColumns}
 use Rattle.plan.specs.declared.Step.the-variants.{Union}
-use Rattle.memory.proofs.Finish.{unfit-done}
-use Rattle.union.proofs.UnionMeaning.{union-parts, union-many, union-made}
+use Rattle.cells.proofs.CellLaws.{values-moved, labels-moved}
+use Rattle.memory.proofs.Finish.{unfit-done, columns-fit, columns-misfit}
+use Rattle.union.proofs.UnionMeaning.{UnionFits, union-parts, union-many, in-values, in-labels, union-made}
 use Rattle.union.proofs.uniting.union.Statement.{statement}
 use Rattle.union.proofs.uniting.union.Tie as tie
-use denote.Ref.{now}
 
-union-fits-requires : tie.Need-union-fits-requires
-union-fits-requires c κs = search needs
+-- the arguments fit
+abbrev told : tie.After-live-table2 → tie.After-columns
+told c = c .before .before .before
+
+abbrev start : tie.After-live-table2 → tie.Start
+start c = told c .before .before .before .before
+
+fitted : (c : tie.After-live-table2) → let a = start c .args in
+    (fits Union [] (length (now (a .values))) (length (now (a .labels))) (a .stack) ≡ true)
+    × (told c .columns .given .0 .0 ≡ madeColumns Union [] (widthsTo (a .stack) (a .stack .depth)))
+fitted c = columns-fit _ _ (sym (told c .before .before .fit .ensures) ∙ told c .columns .given .1)
+
+parts : (c : tie.After-live-table2) → let a = start c .args in
+    UnionFits (length (now (a .values))) (length (now (a .labels))) (a .stack) (c .before .live-table .result) (c .live-table2 .result) (told c .columns .given .0 .0)
+parts c = union-parts [] _ _ (start c .args .stack) _ _ _ (c .before .live-table .ensures) (c .live-table2 .ensures) (fitted c .0) (fitted c .1)
+
+-- from the test of the rows, and from the end
+abbrev tested : tie.Else1 → tie.After-live-table2
+tested c = c .before .before .before
+
+fit-requires : tie.Need-fit-requires
+fit-requires c κs = search needs
+
+enum-known-columns : tie.Need-enum-known-columns
+enum-known-columns c = search needs
+
+enum-told : tie.Need-enum-told
+enum-told c = search needs
 
 returns : tie.Need-returns
-returns c = λ tables. unfit-done Union tables _ _ _ (sym (c .before .union-fits .ensures (widthsOf tables)) ∙ not-true _ (c .if1 .taken))
+unfolding columnsExist madeColumns
+returns c = λ tables. unfit-done Union tables _ _ (columns-misfit _ _ (sym (c .before .before .fit .ensures) ∙ c .enum-told .given .1))
 
-sub-left : tie.Need-sub-left
-sub-left c = (union-parts [] _ _ _ (sym (c .before .before .union-fits .ensures []) ∙ not-false _ (c .before .if1 .left))) .two
+live-table-requires : tie.Need-live-table-requires
+live-table-requires c κs = search needs
 
-mul-above : tie.Need-mul-above
-mul-above c = omega (arith, union-parts [] _ _ _ (sym (c .before .before .before .before .union-fits .ensures []) ∙ not-false _ (c .before .before .before .if1 .left)))
+live-table-requires-2 : tie.Need-live-table-requires-2
+live-table-requires-2 c κs = search needs
 
-array-read-above : tie.Need-array-read-above
-array-read-above c = omega (arith, union-parts [] _ _ _ (sym (c .before .before .before .before .union-fits .ensures []) ∙ not-false _ (c .before .before .before .if1 .left)))
-
-add-below : tie.Need-add-below
-add-below c = search needs
-
-mul-below : tie.Need-mul-below
-mul-below c = omega (arith, union-parts [] _ _ _ (sym (c .before .before .before .before .union-fits .ensures []) ∙ not-false _ (c .before .before .before .if1 .left)))
-
-array-read-below : tie.Need-array-read-below
-array-read-below c = omega (arith, union-parts [] _ _ _ (sym (c .before .before .before .before .union-fits .ensures []) ∙ not-false _ (c .before .before .before .if1 .left)))
-
-mul-columns : tie.Need-mul-columns
-mul-columns c = omega (arith, union-parts [] _ _ _ (sym (c .before .before .before .before .union-fits .ensures []) ∙ not-false _ (c .before .before .before .if1 .left)))
-
-array-read-columns : tie.Need-array-read-columns
-array-read-columns c = omega (arith, union-parts [] _ _ _ (sym (c .before .before .before .before .union-fits .ensures []) ∙ not-false _ (c .before .before .before .if1 .left)))
-
-add-if2 : tie.Need-add-if2
-add-if2 c = omega (arith, union-parts [] _ _ _ (sym (c .before .before .before .before .union-fits .ensures []) ∙ not-false _ (c .before .before .before .if1 .left)))
+add-if1 : tie.Need-add-if1
+add-if1 c = let f = parts (c .before .before) in omega (arith, f .few-left, f .few-right)
 
 returns-2 : tie.Need-returns-2
+unfolding columnsExist madeColumns
 returns-2 c =
-    let a = c .before .before .before .before .before .before .before .args in
-    λ tables. union-many tables (now (a .values)) (now (a .labels)) (a .stack) (union-parts [] _ _ _ (sym (c .before .before .before .before .before .union-fits .ensures []) ∙ not-false _ (c .before .before .before .before .if1 .left))) (sym (c .before .before .before .before .before .union-fits .ensures (widthsOf tables)) ∙ not-false _ (c .before .before .before .before .if1 .left)) (c .if2 .taken)
-
-add-move-cells : tie.Need-add-move-cells
-add-move-cells c = search needs
+    let refused = c in
+    let l = refused .before .before .before in
+    let a = start l .args in
+    λ tables. union-many tables (work (now (a .values)) (now (a .labels))) (a .stack) (fitted l .0) (parts l) (refused .if1 .taken)
 
 mul-move-cells : tie.Need-mul-move-cells
-mul-move-cells c = omega (arith, union-parts [] _ _ _ (sym (c .before .before .before .before .before .before .before .union-fits .ensures []) ∙ not-false _ (c .before .before .before .before .before .before .if1 .left)))
+mul-move-cells c = omega (arith, parts (tested (c .before .before .before)) .cells-left)
+
+add-move-cells : tie.Need-add-move-cells
+add-move-cells c = let f = parts (tested (c .before .before .before .before)) in omega (arith, f .cells-left, f .left-at, f .lower .low)
 
 mul-move-cells-2 : tie.Need-mul-move-cells-2
-mul-move-cells-2 c = omega (arith, union-parts [] _ _ _ (sym (c .before .before .before .before .before .before .before .union-fits .ensures []) ∙ not-false _ (c .before .before .before .before .before .before .if1 .left)))
-
-mul-move-cells-3 : tie.Need-mul-move-cells-3
-mul-move-cells-3 c = omega (arith, union-parts [] _ _ _ (sym (c .before .before .before .before .before .before .before .union-fits .ensures []) ∙ not-false _ (c .before .before .before .before .before .before .if1 .left)))
-
-add-move-cells-2 : tie.Need-add-move-cells-2
-add-move-cells-2 c = omega (arith, union-parts [] _ _ _ (sym (c .before .before .before .before .before .before .before .union-fits .ensures []) ∙ not-false _ (c .before .before .before .before .before .before .if1 .left)))
-
-mul-move-cells-4 : tie.Need-mul-move-cells-4
-mul-move-cells-4 c = omega (arith, union-parts [] _ _ _ (sym (c .before .before .before .before .before .before .before .union-fits .ensures []) ∙ not-false _ (c .before .before .before .before .before .before .if1 .left)))
+mul-move-cells-2 c = omega (arith, parts (tested (c .before .before .before .before .before)) .cells-right)
 
 move-cells-requires : tie.Need-move-cells-requires
 move-cells-requires c κs = search needs
@@ -84,34 +92,35 @@ same-length-2 : tie.Need-same-length-2
 same-length-2 c = search needs
 
 returns-3 : tie.Need-returns-3
+unfolding columnsExist madeColumns
 returns-3 c =
-    let a = c .before .before .before .before .before .before .before .before .before .before .before .before .before .before .args in
-    let m = c .before .before .before .before .move-cells in
-    λ tables. union-made tables (now (a .values)) (now (a .labels)) (a .stack) (union-parts [] _ _ _ (sym (c .before .before .before .before .before .before .before .before .before .before .before .before .union-fits .ensures []) ∙ not-false _ (c .before .before .before .before .before .before .before .before .before .before .before .if1 .left))) (sym (c .before .before .before .before .before .before .before .before .before .before .before .before .union-fits .ensures (widthsOf tables)) ∙ not-false _ (c .before .before .before .before .before .before .before .before .before .before .before .if1 .left)) (m .result) _ _ _ (c .before .before .before .before .before .before .before .if2 .left)
-    (m .ensures .0) (m .ensures .1 .0) (m .ensures .1 .1) (c .with-table .ensures)
+    let moves = c .before .before .before .before .before .before in
+    let e = moves .before .before .before .before .before .before in
+    let l = tested e in
+    let a = start l .args in
+    let w = work (now (a .values)) (now (a .labels)) in
+    let m = moves .move-cells .ensures in
+    λ tables.
+    let v = in-values tables w (a .stack) (fitted l .0) (parts l) in
+    let k = in-labels tables w (a .stack) (fitted l .0) (parts l) in
+    rw (values-moved w v k (m .0) (m .1 .0) (m .1 .1), labels-moved w v k (m .0) (m .1 .0) (m .1 .1), c .with-table .ensures)
+    (union-made tables w (a .stack) (fitted l .0) (parts l) (e .if1 .left))
 
 pub union-spec : {M : Type 1} → statement M
 union-spec =
     tie.close
     (tie.spec
-    union-fits-requires
+    fit-requires
+    enum-known-columns
+    enum-told
     returns
-    sub-left
-    mul-above
-    array-read-above
-    add-below
-    mul-below
-    array-read-below
-    mul-columns
-    array-read-columns
-    add-if2
+    live-table-requires
+    live-table-requires-2
+    add-if1
     returns-2
-    add-move-cells
     mul-move-cells
+    add-move-cells
     mul-move-cells-2
-    mul-move-cells-3
-    add-move-cells-2
-    mul-move-cells-4
     move-cells-requires
     add-with-table
     with-table-requires

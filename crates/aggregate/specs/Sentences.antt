@@ -1,0 +1,36 @@
+-- Document 01's sentences on aggregates, as theorems about the definitions beside this file. Each is proved; nothing here is to be believed.
+use mathlib.Core.Path.{_≡_}
+use mathlib.Core.Bool.{true, false}
+use mathlib.Core.List.{List}
+use mathlib.Core.Logic.{_⊎_}
+use Prim.Native.Nat.{ℕ, _<_}
+use lib.IntN.{ℤ, pos, _+ℤ_, _*ℤ_}
+use lib.ListN.{length}
+use lib.Signed.{_≤ℤ_, _<ℤ_}
+use Rattle.value.specs.Range.{inRange, OVER}
+use Rattle.aggregate.specs.Aggregate.{smaller, larger, exactSum, allInRange, average}
+
+-- q is v divided by n and rounded toward minus infinity: q ≤ v / n < q + 1
+pub record Floored (n : ℕ) (v q : ℤ) : Type 0 where
+  pub below : (pos n *ℤ q) ≤ℤ v
+  pub above : v <ℤ (pos n *ℤ (q +ℤ pos 1))
+
+-- "avg is the exact sum divided by the row count, rounded toward minus infinity"
+abbrev pub AverageIsFloored : Type 0
+AverageIsFloored = (values : List ℤ) → allInRange values ≡ true → 0 < length values
+    → Floored (length values) (exactSum values) (average (exactSum values) (length values))
+
+-- the one of two values that is not above, or not below, the other; OVER with OVER
+pub record Chosen (Before : ℤ → ℤ → Type 0) (choice : ℤ → ℤ → ℤ) : Type 0 where
+  pub one : (a b : ℤ) → inRange a ≡ true → inRange b ≡ true → (choice a b ≡ a) ⊎ (choice a b ≡ b)
+  pub left : (a b : ℤ) → inRange a ≡ true → inRange b ≡ true → Before (choice a b) a
+  pub right : (a b : ℤ) → inRange a ≡ true → inRange b ≡ true → Before (choice a b) b
+  pub over-left : (a b : ℤ) → inRange a ≡ false → choice a b ≡ OVER
+  pub over-right : (a b : ℤ) → inRange b ≡ false → choice a b ≡ OVER
+
+-- "min and max are of exact values": two at a time
+abbrev pub SmallerIsLeast : Type 0
+SmallerIsLeast = Chosen (λ a b. a ≤ℤ b) smaller
+
+abbrev pub LargerIsGreatest : Type 0
+LargerIsGreatest = Chosen (λ a b. b ≤ℤ a) larger

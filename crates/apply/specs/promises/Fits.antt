@@ -1,0 +1,19 @@
+-- What APPLY asks beyond what every step asks: an operation that exists, and labels that are labels. The label library answers then.
+use Prim.Native.Nat.{ℕ}
+use mathlib.Core.Bool.{Bool, _&&_}
+use mathlib.Core.List.{List}
+use Rattle.cells.specs.promises.Work.{Work}
+use Rattle.kinds.specs.promises.Operations.{operationFits}
+use Rattle.memory.specs.declared.Stack.{Stack}
+use Rattle.memory.specs.promises.Stack.{topFormed}
+use Rattle.memory.specs.promises.Steps.{fitsIn}
+use Rattle.plan.specs.Table.{Table}
+use Rattle.plan.specs.declared.Step.the-variants.{Apply}
+use Rattle.plan.specs.declared.Transform.{Transform}
+
+-- the operation exists, and every label of the column in the top table is well-formed
+abbrev pub operandsFit : ℕ → Transform → Work → Stack → Bool
+operandsFit column transform work stack = operationFits transform && topFormed column work stack
+
+abbrev pub applyFits : ℕ → Transform → List Table → Work → Stack → Bool
+applyFits column transform tables work stack = fitsIn (Apply column transform) tables work stack && operandsFit column transform work stack

@@ -1,0 +1,2 @@
+-- Cells of work memory. Nothing here is to be believed: `promises` has what the crates promise one another.
+pub mod promises

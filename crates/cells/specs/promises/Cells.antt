@@ -1,0 +1,45 @@
+-- Two slices, values and labels, as one list of cells.
+use Prim.Native.Nat.{ℕ, zero, suc, _+_, _-_}
+use mathlib.Core.Path.{_≡_}
+use mathlib.Core.Bool.{Bool, _&&_, _||_}
+use mathlib.Core.List.{List, [], _∷_, _++_}
+use lib.Dec.{leb}
+use lib.IntN.{ℤ}
+use lib.ListN.{length, take, drop}
+use Rattle.plan.specs.Table.{Cell, Row}
+
+-- as long as the shorter of the two
+abbrev pub cellsOf : List ℤ → List ℕ → List Cell
+cellsOf [] labels = []
+cellsOf (value ∷ values) [] = []
+cellsOf (value ∷ values) (label ∷ labels) = record { value = value; label = label } ∷ cellsOf values labels
+
+-- the cells of rows, one row after the other
+abbrev pub flat : List Row → List Cell
+flat [] = []
+flat (row ∷ rest) = row .cells ++ flat rest
+
+-- a row of so many columns
+abbrev pub Wide : ℕ → Row → Type 0
+Wide columns row = length (row .cells) ≡ columns
+
+-- the labels of a table's cells, row by row
+abbrev pub gridOf : ℕ → ℕ → List ℕ → List (List ℕ)
+gridOf columns zero labels = []
+gridOf columns (suc rows) labels = take columns labels ∷ gridOf columns rows (drop columns labels)
+
+-- `count` elements from a place on, copied to another place
+abbrev pub moved : {A : Type 0} → ℕ → ℕ → ℕ → List A → List A
+moved from to count list = take to list ++ (take count (drop from list) ++ drop (to + count) list)
+
+-- a part of a list is within it
+abbrev pub within : ℕ → ℕ → ℕ → Bool
+within from count length = leb from length && leb count (length - from)
+
+-- elements of a list that long can be copied within it, first to last, to a place not after theirs or wholly past them
+abbrev pub canMove : ℕ → ℕ → ℕ → ℕ → Bool
+canMove from to count length = (leb to from || leb (from + count) to) && within from count length && within to count length
+
+-- such a move within both slices
+abbrev pub movesWithin : List ℤ → List ℕ → ℕ → ℕ → ℕ → Bool
+movesWithin values labels from to count = canMove from to count (length values) && canMove from to count (length labels)

@@ -1,0 +1,108 @@
+-- The tables of a run have rows of their width, at most 256 of them, and at most 8 columns; its trace has at most 64 lines. Assumes nothing.
+use Prim.Native.Nat.{ℕ, suc, _≤_}
+use mathlib.Core.Path.{_≡_, refl}
+use mathlib.Core.Bool.{true, and-eq-true-iff}
+use mathlib.Core.List.{List, [], _∷_, map}
+use native.Mathlib.Nat.{le-trans, le-of-eq, mul-le-mul}
+use native.Mathlib.Omega.{arith}
+use lib.Dec.{leb}
+use lib.ListN.{length, drop}
+use borrow.Author.Tests.{leb-true}
+use Rattle.container.specs.Accepted.{Placed}
+use Rattle.container.specs.Check.{accepted, checkInput}
+use Rattle.container.specs.Contents.{planOf, tablesOf}
+use Rattle.container.proofs.AcceptedPlan.{plan-placed, steps-counted}
+use Rattle.container.proofs.AcceptedTables.{tables-sound}
+use Rattle.cells.specs.promises.Cells.{flat}
+use Rattle.memory.specs.promises.Steps.{widthsOf}
+use Rattle.cells.proofs.RowReads.{flat-length}
+use Rattle.plan.specs.Evaluate.{release, Result, checkRelease, ending, evaluateFrom, evaluate}
+use Rattle.plan.specs.Sense.{Each, Shaped, Small}
+use Rattle.plan.specs.Steps.{takes, check, make, tooMany}
+use Rattle.plan.specs.Table.{Table, noTable, grid, top}
+use Rattle.plan.specs.Verdict.{Verdict, fine, refused}
+use Rattle.plan.specs.Widths.{columnsExist, madeColumns, placed}
+use Rattle.plan.specs.declared.Step.{Step}
+use Rattle.plan.proofs.SenseShape.{each-get, made-shaped, made-small}
+use Rattle.tally.specs.Lines.{flatLines}
+use Rattle.tally.proofs.Laws.{lines-length}
+use Rattle.demands.specs.Monitor.{evaluation}
+use Rattle.demands.proofs.Widths.{each-drop, each-weaker, made-columns, placed-after}
+
+pub record Held (table : Table) : Type 0 where
+  pub shaped : Shaped table
+  pub small : Small table
+  pub few : table .columns ≤ 8
+
+each-shaped : (tables : List Table) → Each Held tables → Each Shaped tables
+each-shaped = each-weaker Held Shaped (λ table h. h .shaped)
+
+each-small : (tables : List Table) → Each Held tables → Each Small tables
+each-small = each-weaker Held Small (λ table h. h .small)
+
+-- an accepted container's tables
+tables-held : (bytes : List ℕ) → checkInput bytes ≡ accepted → Each Held (tablesOf bytes)
+tables-held bytes e = let t = tables-sound bytes e in all (tablesOf bytes) (t .0) (t .1) (t .2)
+  where
+    all : (tables : List Table) → Each Shaped tables → Each Small tables → Each (λ table. (1 ≤ table .columns) × (table .columns ≤ 8)) tables → Each Held tables
+    all [] s m w = tt
+    all (table ∷ tables) s m w = (record { shaped = s .0; small = m .0; few = w .0 .1 }, all tables (s .1) (m .1) (w .1))
+
+-- a step that the plan's check places
+made-held : (step : Step) (tables stack : List Table) → Each Held tables → Each Held stack → placed step (widthsOf tables) (widthsOf stack) ≡ true
+    → tooMany step (make step tables stack) ≡ fine → Held (make step tables stack)
+made-held step tables stack t s p m =
+    let b = and-eq-true-iff (columnsExist step (widthsOf tables) (widthsOf stack)) (leb (madeColumns step (widthsOf tables) (widthsOf stack)) 8) .0 p in
+    record {
+      shaped = made-shaped step tables stack (b .0) (each-shaped tables t) (each-shaped stack s) .0;
+      small = made-small step tables stack (each-small tables t) (each-small stack s) m;
+      few = rw (made-columns step tables stack) (leb-true _ 8 (b .1));
+    }
+
+-- ---- along a plan
+
+onward : (v : Verdict) (step : ℕ) (result : Result) (table : Table) → ending v step result .outcome ≡ release table → (v ≡ fine) × (result .outcome ≡ release table)
+onward fine step result table e = (refl, e)
+onward (refused number row column) step result table e = absurd (let z : _≡_ {A = ℕ} 0 1 = cc in omega arith)
+
+module _ (tables : List Table) (t : Each Held tables) where
+  released-held : (step : ℕ) (stack : List Table) (plan : List Step) → Each Held stack → Placed (widthsOf tables) (widthsOf stack) plan
+      → (table : Table) → evaluateFrom tables step stack plan .outcome ≡ release table → Held table
+  unfolding evaluateFrom
+  released-held step stack [] s p table e =
+      let o : top stack ≡ table = cc (onward (checkRelease (top stack)) step _ table e .1) in
+      rw (← o) (each-get Held stack 0 noTable (record { shaped = tt; small = omega arith; few = omega arith }) s)
+  released-held step stack (next ∷ later) s p table e =
+      let o = onward (check next (map grid stack)) step _ table e in
+      let m = onward (tooMany next (make next tables stack)) step _ table (o .1) in
+      released-held (suc step) (make next tables stack ∷ drop (takes next) stack) later
+      (made-held next tables stack t s (p .2) (m .0), each-drop Held (takes next) stack s) (placed-after next later tables stack p) table (m .1)
+
+trace-ending : (v : Verdict) (step n : ℕ) (result : Result) → length (result .trace) ≤ n → length (ending v step result .trace) ≤ n
+trace-ending fine step n result h = h
+trace-ending (refused number row column) step n result h = omega arith
+
+-- a line for each step at most
+trace-length : (tables : List Table) (step : ℕ) (stack : List Table) (plan : List Step) → length (evaluateFrom tables step stack plan .trace) ≤ length plan
+unfolding evaluateFrom
+trace-length tables step stack [] = trace-ending (checkRelease (top stack)) step 0 _ (omega arith)
+trace-length tables step stack (next ∷ later) =
+    let more = trace-length tables (suc step) (make next tables stack ∷ drop (takes next) stack) later in
+    trace-ending (check next (map grid stack)) step (suc (length later)) _
+    (trace-ending (tooMany next (make next tables stack)) step (suc (length later)) _ (omega (arith, more)))
+
+-- ---- an accepted container
+
+module _ (bytes : List ℕ) (e : checkInput bytes ≡ accepted) where
+  module _ (table : Table) (o : evaluation bytes .outcome ≡ release table) where
+    pub release-held : Held table
+    unfolding evaluation evaluate
+    release-held = released-held (tablesOf bytes) (tables-held bytes e) 0 [] (planOf bytes) tt (plan-placed bytes e) table o
+
+    pub cells-most : length (flat (table .rows)) ≤ 2048
+    cells-most =
+        le-trans (le-of-eq (flat-length (table .columns) (table .rows) (release-held .shaped))) (mul-le-mul (release-held .small) (release-held .few))
+
+  pub lines-most : length (flatLines (evaluation bytes .trace)) ≤ 256
+  unfolding evaluation evaluate
+  lines-most = omega (arith, lines-length (evaluation bytes .trace), trace-length (tablesOf bytes) 0 [] (planOf bytes), steps-counted bytes e)

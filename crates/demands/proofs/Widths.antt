@@ -1,0 +1,65 @@
+-- The columns along a plan: those of a step's table are those that the plan's check counts. Assumes nothing.
+use Prim.Native.Nat.{ℕ, zero, suc}
+use mathlib.Core.Path.{_≡_, refl, sym, ap₂}
+use mathlib.Core.List.{List, [], _∷_}
+use lib.ListN.{getD, take, drop, List·getD-map}
+use Rattle.container.specs.Accepted.{Placed}
+use Rattle.memory.specs.promises.Steps.{widthsOf}
+use Rattle.plan.specs.Apply.{applied}
+use Rattle.plan.specs.Filter.{filtered}
+use Rattle.plan.specs.Group.{grouped}
+use Rattle.plan.specs.Join.{joined}
+use Rattle.plan.specs.Keep.{kept}
+use Rattle.plan.specs.Scan.{scanned}
+use Rattle.plan.specs.Sense.{Each}
+use Rattle.plan.specs.Steps.{takes, make}
+use Rattle.plan.specs.Table.{Table, noTable}
+use Rattle.plan.specs.Union.{united}
+use Rattle.plan.specs.Widths.{madeColumns}
+use Rattle.plan.specs.declared.Step.{Step}
+use Rattle.plan.specs.declared.Step.the-variants.{Scan, Union, Join, Filter, Keep, Apply, Group}
+
+-- ---- facts of each element
+
+module _ {A : Type 0} where
+  pub each-take : (P : A → Type 0) (n : ℕ) (xs : List A) → Each P xs → Each P (take n xs)
+  each-take P zero xs e = tt
+  each-take P (suc n) [] e = tt
+  each-take P (suc n) (x ∷ xs) e = (e .0, each-take P n xs (e .1))
+
+  pub each-drop : (P : A → Type 0) (n : ℕ) (xs : List A) → Each P xs → Each P (drop n xs)
+  each-drop P zero xs e = e
+  each-drop P (suc n) [] e = tt
+  each-drop P (suc n) (x ∷ xs) e = each-drop P n xs (e .1)
+
+  pub each-weaker : (P Q : A → Type 0) → ((x : A) → P x → Q x) → (xs : List A) → Each P xs → Each Q xs
+  each-weaker P Q f [] e = tt
+  each-weaker P Q f (x ∷ xs) e = (f x (e .0), each-weaker P Q f xs (e .1))
+
+-- ---- columns
+
+width-at : (n : ℕ) (stack : List Table) → getD (widthsOf stack) n 0 ≡ getD stack n noTable .columns
+width-at n stack = List·getD-map (λ table. table .columns) stack n noTable
+
+pub made-columns : (step : Step) (tables stack : List Table) → make step tables stack .columns ≡ madeColumns step (widthsOf tables) (widthsOf stack)
+unfolding make madeColumns scanned united joined filtered kept applied grouped
+made-columns (Scan table) tables stack = sym (width-at table tables)
+made-columns Union tables stack = sym (width-at 1 stack)
+made-columns (Join left right) tables stack = rw (width-at 1 stack, width-at 0 stack)
+made-columns (Filter column comparison operand) tables stack = sym (width-at 0 stack)
+made-columns (Keep mask) tables stack = rw (width-at 0 stack)
+made-columns (Apply column transform) tables stack = rw (width-at 0 stack)
+made-columns (Group keys aggregate column) tables stack = rw (width-at 0 stack)
+
+widths-drop : (n : ℕ) (stack : List Table) → drop n (widthsOf stack) ≡ widthsOf (drop n stack)
+widths-drop zero stack = refl
+widths-drop (suc n) [] = refl
+widths-drop (suc n) (table ∷ stack) = widths-drop n stack
+
+-- the rest of a placed plan is placed on the stack after its first step
+pub placed-after : (step : Step) (later : List Step) (tables stack : List Table) → Placed (widthsOf tables) (widthsOf stack) (step ∷ later)
+    → Placed (widthsOf tables) (widthsOf (make step tables stack ∷ drop (takes step) stack)) later
+placed-after step later tables stack p =
+    let after : madeColumns step (widthsOf tables) (widthsOf stack) ∷ drop (takes step) (widthsOf stack) ≡ widthsOf (make step tables stack ∷ drop (takes step) stack)
+    = ap₂ _∷_ (sym (made-columns step tables stack)) (widths-drop (takes step) stack) in
+    rw after at (p .3)

@@ -1,0 +1,44 @@
+-- Demand 1, lent memory: after each run each lent slice holds only what document 01 fixes for that answer.
+use Prim.Native.Nat.{ℕ, _<_}
+use mathlib.Core.Path.{_≡_}
+use mathlib.Core.Bool.{false}
+use mathlib.Core.List.{List}
+use mathlib.Core.Logic.{_≢_}
+use lib.IntN.{ℤ, pos}
+use lib.ListN.{length, getD, drop}
+use Rattle.demands.specs.Answers.{released, refusedInput, refusedState}
+use Rattle.demands.specs.Lent.{Lent, enough}
+use Rattle.demands.specs.Monitor.{Begun, monitor}
+
+-- no refusal alters the output
+abbrev pub RefusalKeepsOutput : Type 0
+RefusalKeepsOutput = (bytes : List ℕ) (lent : Lent) → ((rows columns : ℕ) → monitor bytes lent .answer ≢ released rows columns)
+    → monitor bytes lent .left .output ≡ lent .output
+
+-- an input refusal alters nothing, and neither does 1
+abbrev pub InputRefusalKeepsAll : Type 0
+InputRefusalKeepsAll = (bytes : List ℕ) (lent : Lent) (number place : ℕ) → monitor bytes lent .answer ≡ refusedInput number place
+    → monitor bytes lent .left ≡ lent
+
+abbrev pub ShortKeepsAll : Type 0
+ShortKeepsAll = (bytes : List ℕ) (lent : Lent) → enough lent ≡ false → monitor bytes lent ≡ record { answer = refusedState 1 0 0 0; left = lent }
+
+-- a run that was begun leaves its work memory zero, and what lies past the first 8,192 elements as it was
+pub record Zeroed (lent left : Lent) : Type 0 where
+  pub values-zero : (i : ℕ) (d : ℤ) → i < 8192 → getD (left .values) i d ≡ pos 0
+  pub values-past : drop 8192 (left .values) ≡ drop 8192 (lent .values)
+  pub labels-zero : (i d : ℕ) → i < 8192 → getD (left .labels) i d ≡ 0
+  pub labels-past : drop 8192 (left .labels) ≡ drop 8192 (lent .labels)
+
+abbrev pub BegunLeavesZero : Type 0
+BegunLeavesZero = (bytes : List ℕ) (lent : Lent) → Begun bytes lent → Zeroed lent (monitor bytes lent .left)
+
+-- every slice keeps its length
+pub record SameLengths (lent left : Lent) : Type 0 where
+  pub values : length (left .values) ≡ length (lent .values)
+  pub labels : length (left .labels) ≡ length (lent .labels)
+  pub output : length (left .output) ≡ length (lent .output)
+  pub trace : length (left .trace) ≡ length (lent .trace)
+
+abbrev pub LengthsKept : Type 0
+LengthsKept = (bytes : List ℕ) (lent : Lent) → SameLengths lent (monitor bytes lent .left)

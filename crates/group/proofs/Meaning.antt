@@ -1,0 +1,149 @@
+-- GROUP in work memory and its meaning. Assumes nothing.
+use Prim.Native.Nat.{ℕ, suc, _+_, _*_, _≤_, _<_}
+use mathlib.Core.Path.{_≡_, refl, sym, ap, _∙_}
+use mathlib.Core.Bool.{Bool, true, false, _&&_, and-eq-true-iff}
+use mathlib.Core.List.{List, [], _∷_, map}
+use native.Mathlib.Omega.{arith}
+use lib.Dec.{leb, ltb}
+use lib.ListN.{length, getD}
+use Prim.Native.Nat.{_^_}
+use borrow.Author.Tests.{leb-true, ltb-true, lt-ltb}
+use Rattle.cells.specs.promises.Labelled.{columnFormed, columnFormedAt}
+use Rattle.cells.specs.promises.Search.{says, tableWithin}
+use Rattle.cells.specs.promises.Work.{Work, cellsIn}
+use Rattle.group.specs.promises.Fits.{groupFits}
+use Rattle.group.specs.promises.Made.{Source, groupRows, Replaced}
+use Rattle.group.specs.promises.Members.{groupingOf, Allowed, forbidsAt, rowsIn}
+use Rattle.group.specs.declared.Grouping.{Grouping}
+use Rattle.label.specs.Discharge.{forbidsA}
+use Rattle.label.specs.WellFormed.{wellFormed}
+use Rattle.label.specs.Word.{bitAt}
+use Rattle.memory.specs.declared.LiveTable.{LiveTable}
+use Rattle.memory.specs.declared.Refusal.{Refusal}
+use Rattle.memory.specs.declared.Stack.{Stack}
+use Rattle.memory.specs.declared.StepAnswer.the-variants.{Made, Refused}
+use Rattle.memory.specs.promises.Stack.{Ready, stackIn, topFormed, widthsTo, withTable, liveTable, labelsIn, Inside}
+use Rattle.memory.specs.promises.Steps.{refusalSays, verdict, fits, fitsIn, DoneWhere}
+use Rattle.plan.specs.Group.{checkGroup, grouped}
+use Rattle.plan.specs.Keep.{keptCount}
+use Rattle.plan.specs.Sense.{Each}
+use Rattle.plan.specs.Steps.{check, make, tooMany}
+use Rattle.plan.specs.Table.{Row, Table, labelsOf, grid, top}
+use Rattle.plan.specs.Verdict.{Verdict, fine, refused, orElse, refuseIf, firstRow, notClear}
+use Rattle.plan.specs.Widths.{enoughTables, columnsExist, madeColumns}
+use Rattle.plan.specs.declared.Aggregate.{Aggregate}
+use Rattle.plan.specs.declared.Step.{Step}
+use Rattle.plan.specs.declared.Step.the-variants.{Group}
+use Rattle.cells.proofs.LabelledTables.{label-of}
+use Rattle.memory.proofs.Finish.{unchanged-done, rows-done, says-is, or-nothing}
+use Rattle.memory.proofs.LiveTables.{fits-parts, Stands, stands, inside, at-is, table-within, grid-is, stack-top, top-width}
+
+-- ---- labels that an aggregate may be made of
+
+first-fine : (u v : Verdict) → orElse u v ≡ fine → (u ≡ fine) × (v ≡ fine)
+first-fine fine v e = (refl, e)
+first-fine (refused number row column) v e = (cc, cc)
+
+if-fine : (fact : Bool) (number row column : ℕ) → refuseIf fact number row column ≡ fine → fact ≡ false
+if-fine true number row column e = cc
+if-fine false number row column e = refl
+
+allowed-rows : (column first : ℕ) (rows : List Row) → columnFormed column (map labelsOf rows) ≡ true → firstRow (forbidsAt column) first (map labelsOf rows) ≡ fine → Each (Allowed column) rows
+allowed-rows column first [] e f = tt
+allowed-rows column first (row ∷ rest) e f =
+    let word = getD (labelsOf row) column 0 in
+    let t = and-eq-true-iff (wellFormed word) (columnFormed column (map labelsOf rest)) .0 e in
+    let u = first-fine (refuseIf (forbidsA word) 32 first column) (firstRow (forbidsAt column) (suc first) (map labelsOf rest)) f in
+    ((rw (label-of column row) at (t .0), rw (label-of column row) at (if-fine (forbidsA word) 32 first column (u .0))), allowed-rows column (suc first) rest (t .1) (u .1))
+
+-- what a GROUP that fits finds
+pub record GroupFits (keys column values labels : ℕ) (stack : Stack) (table : LiveTable) (width : ℕ) : Type 0 where
+  pub is-ready : Ready values labels stack
+  pub here : Stands stack 0 table
+  pub inside-is : Inside table values labels
+  pub below : column < table .columns
+  pub width-is : width ≡ keptCount keys (table .columns) + 1
+  pub narrow : width ≤ 8
+
+module _ (keys : ℕ) (aggregate : Aggregate) (column : ℕ) where
+  abbrev step : Step
+  step = Group keys aggregate column
+
+  pub group-parts : (tables : List ℕ) (values labels : ℕ) (stack : Stack) (table : LiveTable) (width : ℕ) → table ≡ liveTable stack 0 → fits step tables values labels stack ≡ true
+      → width ≡ madeColumns step tables (widthsTo stack (stack .depth)) → GroupFits keys column values labels stack table width
+  unfolding enoughTables columnsExist madeColumns
+  group-parts tables values labels stack table width e t w =
+      let widths = widthsTo stack (stack .depth) in
+      let parts = fits-parts step tables values labels stack t in
+      let here = stands stack 0 table (parts .0 .depth) (leb-true 1 (stack .depth) (parts .1)) e in
+      let placed = and-eq-true-iff (columnsExist step tables widths) (leb (madeColumns step tables widths) 8) .0 (parts .2) in
+      let exist = and-eq-true-iff (ltb keys (2 ^ getD widths 0 0)) (ltb column (getD widths 0 0)) .0 (placed .0) in
+      record {
+        is-ready = parts .0;
+        here = here;
+        inside-is = inside here (parts .0);
+        below = ltb-true column _ (rw (top-width here) at (exist .1));
+        width-is = w ∙ ap (λ (n : ℕ). keptCount keys n + 1) (top-width here);
+        narrow = rw w (leb-true _ 8 (placed .1));
+      }
+
+  module _ (tables : List Table) (w : Work) (stack : Stack) {table : LiveTable} {width : ℕ} (t : fitsIn step tables w stack ≡ true)
+      (f : GroupFits keys column (length (w .values)) (length (w .labels)) stack table width) where
+    abbrev g : Grouping
+    g = groupingOf table keys aggregate column width
+
+    pub source-is : Source (groupingOf table keys aggregate column width) (length (w .values)) (length (w .labels))
+    source-is = record {
+      few-rows = f .inside-is .few-rows;
+      few-columns = f .inside-is .few-columns;
+      has-column = f .below;
+      below = f .inside-is .below;
+      width-is = f .width-is;
+      narrow = f .narrow;
+      values-room = f .inside-is .values-room;
+      labels-room = f .inside-is .labels-room;
+    }
+
+    -- all that is asked, as the code tests it
+    pub fits-is : groupFits keys aggregate column tables w stack ≡ columnFormedAt (w .labels) (table .at) (table .rows) (table .columns) column
+    fits-is =
+        rw (t, table-within (f .inside-is), lt-ltb column (table .columns) (f .below))
+        (ap (λ (s : List Table). columnFormed column (grid (top s))) (stack-top w (f .here)) ∙ ap (columnFormed column) (grid-is w (f .inside-is)))
+
+    verdict-is : verdict step tables (stackIn w stack) ≡ checkGroup keys column (labelsIn (w .labels) table)
+    unfolding check tooMany
+    verdict-is = or-nothing _ ∙ ap (λ (s : List Table). check step (map grid s)) (stack-top w (f .here)) ∙ ap (checkGroup keys column) (grid-is w (f .inside-is))
+
+    made-is : make step tables (stackIn w stack) ≡ record { columns = width; rows = groupRows (groupingOf table keys aggregate column width) (cellsIn w) }
+    unfolding make grouped
+    made-is = rw (f .width-is) (ap (make step tables) (stack-top w (f .here)))
+
+    pub allowed : columnFormed column (labelsIn (w .labels) table) ≡ true → says fine ≡ says (checkGroup keys column (labelsIn (w .labels) table))
+        → Each (Allowed column) (rowsIn (groupingOf table keys aggregate column width) (cellsIn w))
+    unfolding checkGroup
+    allowed formed e =
+        let labels = labelsIn (w .labels) table in
+        let same = grid-is w (f .inside-is) in
+        let none = first-fine (notClear (bitAt keys) 31 0 labels) (firstRow (forbidsAt column) 0 labels) (sym (says-is e)) .1 in
+        allowed-rows column 0 (rowsIn g (cellsIn w)) (rw same formed) (rw same none)
+
+    module _ {fit : Bool} (u : fit ≡ true) where
+      pub refused-group : (refusal : Refusal) → says (refusalSays refusal) ≡ says (checkGroup keys column (labelsIn (w .labels) table))
+          → DoneWhere fit step tables w stack (record { answer = Refused refusal; stack = stack }) w
+      refused-group refusal e = unchanged-done step tables w stack u refusal (verdict-is ∙ sym (says-is e))
+
+      pub made-group : {after : Work} {count : ℕ} → says fine ≡ says (checkGroup keys column (labelsIn (w .labels) table))
+          → Replaced (groupingOf table keys aggregate column width) w count after
+          → DoneWhere fit step tables w stack (record { answer = Made; stack = withTable stack (table .slot) width count }) after
+      made-group {after} {count} e r =
+          rows-done step tables w stack u (table .slot) width count (groupRows g (cellsIn w)) after (f .is-ready)
+          (verdict-is ∙ sym (says-is e)) (f .here .low) (f .here .depth-is) made-is (f .narrow) (r .few) (r .counted) (at-is (f .here)) (r .rows)
+
+-- arguments that do not fit
+pub misfit-first : (keys : ℕ) (aggregate : Aggregate) (column : ℕ) (tables : List Table) (w : Work) (stack : Stack) → fitsIn (Group keys aggregate column) tables w stack ≡ false → groupFits keys aggregate column tables w stack ≡ false
+misfit-first keys aggregate column tables w stack e = rw e
+
+-- labels that were tested
+pub formed-parts : (labels : List ℕ) (table : LiveTable) (column : ℕ) → columnFormedAt labels (table .at) (table .rows) (table .columns) column ≡ true → columnFormed column (labelsIn labels table) ≡ true
+formed-parts labels table column e =
+    and-eq-true-iff (tableWithin (table .at) (table .rows) (table .columns) (length labels) && ltb column (table .columns)) (columnFormed column (labelsIn labels table)) .0 e .1

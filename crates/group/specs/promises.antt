@@ -1,0 +1,5 @@
+-- `Fits` has what the step asks; the other files are what its private functions promise each other.
+pub mod Fits
+pub mod Made
+pub mod Members
+pub mod Summaries

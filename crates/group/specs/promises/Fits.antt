@@ -1,0 +1,15 @@
+-- What GROUP asks beyond what every step asks: labels that are labels. The label library answers then.
+use Prim.Native.Nat.{ℕ}
+use mathlib.Core.Bool.{Bool, _&&_}
+use mathlib.Core.List.{List}
+use Rattle.cells.specs.promises.Work.{Work}
+use Rattle.memory.specs.declared.Stack.{Stack}
+use Rattle.memory.specs.promises.Stack.{topFormed}
+use Rattle.memory.specs.promises.Steps.{fitsIn}
+use Rattle.plan.specs.Table.{Table}
+use Rattle.plan.specs.declared.Aggregate.{Aggregate}
+use Rattle.plan.specs.declared.Step.the-variants.{Group}
+
+-- every label of the column that is aggregated is well-formed
+abbrev pub groupFits : ℕ → Aggregate → ℕ → List Table → Work → Stack → Bool
+groupFits keys aggregate column tables work stack = fitsIn (Group keys aggregate column) tables work stack && topFormed column work stack

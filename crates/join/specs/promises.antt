@@ -1,0 +1,3 @@
+-- What the functions of this crate promise one another.
+pub mod Pairs
+pub mod Ends

@@ -1,0 +1,3 @@
+-- What the crates promise one another.
+pub mod Operations
+pub mod Widths

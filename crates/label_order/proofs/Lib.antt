@@ -1,0 +1,2 @@
+-- The order's theorems, for the proofs of other crates to cite.
+pub mod OrderProof

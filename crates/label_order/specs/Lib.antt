@@ -1,0 +1,2 @@
+-- The order on labels.
+pub mod Order

@@ -1,0 +1,2 @@
+-- What SCAN asks of its arguments.
+pub mod Scanning

@@ -1,0 +1,20 @@
+-- When a SCAN fits.
+use Prim.Native.Nat.{ℕ, _+_, _*_}
+use mathlib.Core.Bool.{Bool, _&&_}
+use mathlib.Core.List.{List}
+use lib.Dec.{leb}
+use lib.ListN.{length}
+use Rattle.container.specs.Contents.{tablesOf}
+use Rattle.container.specs.Layout.{partOf}
+use Rattle.container.specs.TablePart.{columnsOf, rowCount, cellCount}
+use Rattle.memory.specs.promises.Steps.{fits, widthsOf}
+use Rattle.memory.specs.declared.Stack.{Stack}
+use Rattle.plan.specs.declared.Step.the-variants.{Scan}
+
+-- a table part of at most 8 columns and 256 rows, with the bytes of all its cells
+abbrev pub cellsFit : List ℕ → Bool
+cellsFit part = leb (columnsOf part) 8 && leb (rowCount part) 256 && leb (4 + 12 * cellCount part) (length part)
+
+-- the slices and the stack fit, and the container has such a table
+abbrev pub scanFits : List ℕ → ℕ → ℕ → ℕ → Stack → Bool
+scanFits bytes table values labels stack = fits (Scan table) (widthsOf (tablesOf bytes)) values labels stack && cellsFit (partOf bytes (table + 1))

@@ -1,0 +1,2 @@
+-- What the promise of a step leaves open.
+pub mod OpenProof
