@@ -4,7 +4,7 @@ use mathlib.Core.Path.{_≡_, refl}
 use mathlib.Core.Bool.{Bool, true}
 use mathlib.Core.List.{List, [], _∷_, map}
 use lib.ListN.{getD, List·getD-map}
-use Rattle.label.specs.Word.{bitAt}
+use Rattle.plan.specs.Masks.{inMask}
 use Rattle.cells.specs.promises.Labelled.{columnFormed, Formed, LabelledRow, Labelled}
 use Rattle.plan.specs.Filter.{passing}
 use Rattle.plan.specs.Keep.{keptCells}
@@ -31,7 +31,7 @@ top-labelled stack = each-get Labelled stack 0 _ tt
 pub kept-formed : (mask columns : ℕ) (row : Row) → LabelledRow row → Each Formed (keptCells mask columns row)
 kept-formed mask zero row e = tt
 kept-formed mask (suc column) row e =
-    each-append Formed (keptCells mask column row) _ (kept-formed mask column row e) (each-cond Formed (bitAt mask column) (cellAt column row ∷ []) [] (cell-formed column row e, tt) tt)
+    each-append Formed (keptCells mask column row) _ (kept-formed mask column row e) (each-cond Formed (inMask mask column) (cellAt column row ∷ []) [] (cell-formed column row e, tt) tt)
 
 pub passing-formed : (pass : Row → Bool) (rows : List Row) → Each LabelledRow rows → Each LabelledRow (passing pass rows)
 passing-formed pass [] e = tt

@@ -9,7 +9,7 @@ use lib.IntN.{ℤ}
 use lib.ListN.{length, take, drop, length-drop}
 use lib.Seq.{length-take-le}
 use borrow.Author.Tests.{le-leb}
-use Rattle.label.specs.Word.{fieldAt, bitAt}
+use Rattle.plan.specs.Masks.{inMask}
 use Rattle.plan.specs.Evaluate.{Outcome, release, checkRelease, firstOver, ending}
 use Rattle.plan.specs.Table.{Cell, Table, grid, labelsOf, rowsOf}
 use Rattle.plan.specs.Verdict.{Verdict, fine, refused, orElse, notClear}
@@ -31,8 +31,8 @@ use Rattle.evaluator.specs.Finish.{finish}
 use Rattle.demands.specs.Monitor.{answerOf, rowsOut, written}
 
 -- every column is in the mask 255
-all-columns : (c : ℕ) → c < 8 → bitAt 255 c ≡ true
-unfolding fieldAt
+all-columns : (c : ℕ) → c < 8 → inMask 255 c ≡ true
+unfolding inMask
 all-columns zero h = refl
 all-columns (suc zero) h = refl
 all-columns (suc (suc zero)) h = refl
@@ -70,7 +70,7 @@ module _ (w : Work) (rows columns steps : ℕ) (few : rows ≤ 256) (narrow : co
   -- the two searches are the meaning's
   searched : (found : Place) → placeSays 35 0 found ≡ notClearAt 35 0 (w .labels) 0 rows columns 255 → placeSays 35 0 found ≡ says stages
   unfolding stages
-  searched found e = e ∙ rw fits-labels (ap says (search-same (bitAt 255) (λ column. true) all-columns 35 columns rows 0 (drop 0 (w .labels)) narrow ∙ ap (notClear (λ column. true) 35 0) (sym grid-is)))
+  searched found e = e ∙ rw fits-labels (ap says (search-same (inMask 255) (λ column. true) all-columns 35 columns rows 0 (drop 0 (w .labels)) narrow ∙ ap (notClear (λ column. true) 35 0) (sym grid-is)))
 
   over-searched : (found : Place) → placeSays 36 0 found ≡ firstOverAt 0 (w .values) 0 rows columns → placeSays 36 0 found ≡ says overs
   unfolding overs

@@ -8,7 +8,7 @@ use native.Mathlib.Omega.{arith}
 use lib.Dec.{ltb}
 use lib.ListN.{length, getD, drop}
 use borrow.Author.Tests.{leb-true, ltb-true}
-use Rattle.label.specs.Word.{bitAt}
+use Rattle.plan.specs.Masks.{inMask}
 use Rattle.cells.specs.declared.Place.{Place}
 use Rattle.cells.specs.declared.Place.the-variants as place
 use Rattle.cells.specs.promises.Search.{says, placeSays, notClearAt}
@@ -77,12 +77,12 @@ module _ (column : ℕ) (comparison : Comparison) (operand : Operand) where
     unfolding make filtered
     made-is = ap (make step tables) (stack-top w (f .here))
 
-    module _ (mask : ℕ) (bits : (c : ℕ) → c < 8 → bitAt mask c ≡ readBy column operand c) where
+    module _ (mask : ℕ) (bits : (c : ℕ) → c < 8 → inMask mask c ≡ readBy column operand c) where
       searched : (found : Place) → placeSays 31 0 found ≡ notClearAt 31 0 (w .labels) (top .at) (top .rows) (top .columns) mask
           → placeSays 31 0 found ≡ says (verdict step tables (stackIn w stack))
       searched found e =
           e ∙ rw (table-within (f .inside-is))
-          (ap says (search-same (bitAt mask) (readBy column operand) bits 31 (top .columns) (top .rows) 0 (drop (top .at) (w .labels)) (f .inside-is .few-columns) ∙ sym filter-verdict))
+          (ap says (search-same (inMask mask) (readBy column operand) bits 31 (top .columns) (top .rows) 0 (drop (top .at) (w .labels)) (f .inside-is .few-columns) ∙ sym filter-verdict))
 
       pub filter-refused : (row c : ℕ) → placeSays 31 0 (place.At row c) ≡ notClearAt 31 0 (w .labels) (top .at) (top .rows) (top .columns) mask
           → Done step tables w stack (record { answer = Refused (NotClear row c); stack = stack }) w

@@ -5,7 +5,7 @@ ghost use mathlib.Core.Bool.{true};
 ghost use Prim.Native.Nat.{ℕ, _+_, _-_, _<_};
 ghost use lib.IntN.{pos};
 ghost use lib.ListN.{length, getD};
-ghost use Rattle.label.specs.Word.{bitAt};
+ghost use Rattle.plan.specs.Masks.{inMask};
 ghost use Rattle.plan.specs.declared.Comparison.{Comparison};
 ghost use Rattle.plan.specs.declared.Step.the-variants.{Filter};
 ghost use Rattle.plan.specs.Filter as spec;
@@ -77,7 +77,7 @@ pub fn filter(
 // The columns that are read, as a mask.
 fn read_by(column: usize, operand: Operand) -> u32
     requires { ⌜ (column < 8) × (operandFits operand 8 ≡ true) ⌝ }
-    ensures { λ r. ⌜ ((c : ℕ) → c < 8 → bitAt r c ≡ spec.readBy column operand c) ⌝ }
+    ensures { λ r. ⌜ ((c : ℕ) → c < 8 → inMask r c ≡ spec.readBy column operand c) ⌝ }
 {
     match operand {
         Operand::Constant(_) => 1 << column,

@@ -5,18 +5,18 @@ use mathlib.Core.List.{List, map}
 use native.Mathlib.Omega.{arith}
 use lib.IntN.{ℤ}
 use lib.ListN.{length, drop, length-map}
-use Rattle.group.specs.promises.Members.{rowOf, rowsFrom, later, members}
-use Rattle.group.specs.promises.Summaries.{valuesIn, single, summaryFrom, valueOf}
+use Rattle.accumulator.specs.promises.Accumulators.{single, withValues, valueOf}
+use Rattle.accumulator.specs.declared.Accumulator.{Accumulator}
+use Rattle.group.specs.promises.Members.{rowOf, rowsFrom, later, members, valuesIn}
 use Rattle.group.specs.declared.Grouping.{Grouping}
-use Rattle.group.specs.declared.Summary.{Summary}
 use Rattle.plan.specs.Group.{aggregateValue}
 use Rattle.plan.specs.Table.{Cell, cellAt}
 use Rattle.group.proofs.Choosing.{chosen-fewer}
-use Rattle.group.proofs.Summing.{rows-from, value-is}
+use Rattle.accumulator.proofs.Laws.{rows-from, value-is}
 use Rattle.cells.proofs.Rows.{rows-length}
 
-module _ (g : Grouping) (memory : List Cell) (leaders : List ℕ) (row : ℕ) (s : Summary) (few : g .rows ≤ 256) (h : row < g .rows)
-    (e : s ≡ summaryFrom (single (cellAt (g .column) (rowOf g memory row) .value)) (valuesIn (g .column) (later g memory leaders row))) where
+module _ (g : Grouping) (memory : List Cell) (leaders : List ℕ) (row : ℕ) (s : Accumulator) (few : g .rows ≤ 256) (h : row < g .rows)
+    (e : s ≡ withValues (single (cellAt (g .column) (rowOf g memory row) .value)) (valuesIn (g .column) (later g memory leaders row))) where
   few-later : length (later g memory leaders row) < g .rows
   few-later =
       let after = drop (g .at + (row + 1) * g .columns) memory in
@@ -34,7 +34,7 @@ module _ (g : Grouping) (memory : List Cell) (leaders : List ℕ) (row : ℕ) (s
 
   pub size-is : s .rows ≡ length (members g memory leaders row)
   unfolding first others
-  size-is = ap (λ (s : Summary). s .rows) e ∙ rows-from (single first) others ∙ omega (arith, as-many)
+  size-is = ap (λ (s : Accumulator). s .rows) e ∙ rows-from (single first) others (omega (arith, as-many, few-later)) ∙ omega (arith, as-many)
 
   pub aggregate-is : valueOf (g .aggregate) s ≡ aggregateValue (g .aggregate) (valuesIn (g .column) (members g memory leaders row))
   unfolding first others

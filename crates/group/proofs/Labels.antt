@@ -6,7 +6,7 @@ use mathlib.Core.List.{List, _∷_}
 use native.Mathlib.Omega.{arith}
 use borrow.Author.Tests.{lt-ltb}
 use Rattle.group.specs.promises.Members.{AllowedLabel, Allowed}
-use Rattle.group.specs.promises.Summaries.{labelsIn}
+use Rattle.group.specs.promises.Members.{labelsIn}
 use Rattle.label.specs.Answers.{Said, said, label, forbidden, refused}
 use Rattle.label.specs.Composition.{composed, composeAnswer}
 use Rattle.label.specs.Discharge.{forbidsA, afterA, aggregateExists, aggregated, aggregateAnswer}

@@ -12,7 +12,6 @@ mod Meaning
 mod Moving
 mod Reading
 mod Searching
-mod Summing
 mod Walking
 mod Writing
 pub mod Laws

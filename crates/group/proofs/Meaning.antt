@@ -17,7 +17,7 @@ use Rattle.group.specs.promises.Members.{groupingOf, Allowed, forbidsAt,
 use Rattle.group.specs.declared.Grouping.{Grouping}
 use Rattle.label.specs.Discharge.{forbidsA}
 use Rattle.label.specs.WellFormed.{wellFormed}
-use Rattle.label.specs.Word.{bitAt}
+use Rattle.plan.specs.Masks.{inMask}
 use Rattle.memory.specs.declared.LiveTable.{LiveTable}
 use Rattle.memory.specs.declared.Refusal.{Refusal}
 use Rattle.memory.specs.declared.Stack.{Stack}
@@ -124,7 +124,7 @@ module _ (keys : ℕ) (aggregate : Aggregate) (column : ℕ) where
     allowed formed e =
         let labels = labelsIn (w .labels) table in
         let same = grid-is w (f .inside-is) in
-        let none = first-fine (notClear (bitAt keys) 31 0 labels) (firstRow (forbidsAt column) 0 labels) (sym (says-is e)) .1 in
+        let none = first-fine (notClear (inMask keys) 31 0 labels) (firstRow (forbidsAt column) 0 labels) (sym (says-is e)) .1 in
         allowed-rows column 0 (rowsIn g (cellsIn w)) (rw same formed) (rw same none)
 
     module _ {fit : Bool} (u : fit ≡ true) where

@@ -9,7 +9,7 @@ use lib.IntN.{ℤ, pos}
 use lib.ListN.{length, getD, drop}
 use lib.Seq.{getD-take, getD-drop}
 use Rattle.group.specs.promises.Members.{rowAt}
-use Rattle.label.specs.Word.{bitAt}
+use Rattle.plan.specs.Masks.{inMask}
 use Rattle.cells.specs.promises.Cells.{cellsOf}
 use Rattle.cells.specs.promises.Work.{work}
 use Rattle.plan.specs.Group.{sameKeys}
@@ -33,10 +33,10 @@ module _ (vs : List ℤ) (ls : List ℕ) (columns place column : ℕ) (h : colum
 
 -- one column more is compared, or passed over
 module _ (keys column : ℕ) (a b : Row) {all : Bool} (e : all ≡ sameKeys keys column a b) where
-  pub key-compared : {equal : Bool} → bitAt keys column ≡ true → equal ≡ same (cellAt column a .value) (cellAt column b .value) → (all && equal) ≡ sameKeys keys (column + 1) a b
+  pub key-compared : {equal : Bool} → inMask keys column ≡ true → equal ≡ same (cellAt column a .value) (cellAt column b .value) → (all && equal) ≡ sameKeys keys (column + 1) a b
   key-compared k r = rw (add-one column, e, k, r)
 
-  pub column-passed : bitAt keys column ≡ false → all ≡ sameKeys keys (column + 1) a b
+  pub column-passed : inMask keys column ≡ false → all ≡ sameKeys keys (column + 1) a b
   column-passed k = rw (add-one column, k, e) (sym (and-true (sameKeys keys column a b)))
 
 -- rows whose keys differ among the first columns differ

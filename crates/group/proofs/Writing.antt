@@ -10,7 +10,7 @@ use lib.IntN.{ℤ, pos}
 use lib.ListN.{length, getD, drop, set}
 use lib.Seq.{getD-take, getD-drop}
 use Rattle.group.specs.promises.Members.{rowAt}
-use Rattle.label.specs.Word.{bitAt}
+use Rattle.plan.specs.Masks.{inMask}
 use Rattle.cells.specs.promises.Work.{Work, work, cellsIn}
 use Rattle.cells.specs.promises.Written.{Written}
 use Rattle.plan.specs.Keep.{keptCount, keptCells}
@@ -21,10 +21,10 @@ use Rattle.plan.proofs.SenseShape.{kept-length}
 
 -- ---- how many columns are keys
 
-pub count-key : (keys column : ℕ) → bitAt keys column ≡ true → keptCount keys (column + 1) ≡ keptCount keys column + 1
+pub count-key : (keys column : ℕ) → inMask keys column ≡ true → keptCount keys (column + 1) ≡ keptCount keys column + 1
 count-key keys column e = rw (add-one column, e)
 
-pub count-other : (keys column : ℕ) → bitAt keys column ≡ false → keptCount keys (column + 1) ≡ keptCount keys column
+pub count-other : (keys column : ℕ) → inMask keys column ≡ false → keptCount keys (column + 1) ≡ keptCount keys column
 count-other keys column e = rw (add-one column, e) (add-zero (keptCount keys column))
 
 counts-grow : (keys column more : ℕ) → keptCount keys column ≤ keptCount keys (column + more)
@@ -38,7 +38,7 @@ count-le keys column columns h = let e : column + (columns - column) ≡ columns
 
 module _ (memory : List Cell) (keys columns column from to : ℕ) (m : Work)
     (w : Written memory to (keptCells keys column (rowAt columns memory from)) (cellsIn m)) (h : column < columns) (below : from + columns ≤ to) where
-  pub key-passed : bitAt keys column ≡ false → Written memory to (keptCells keys (column + 1) (rowAt columns memory from)) (cellsIn m)
+  pub key-passed : inMask keys column ≡ false → Written memory to (keptCells keys (column + 1) (rowAt columns memory from)) (cellsIn m)
   key-passed e = rw (add-one column, e, append-nil) w
 
   module _ (room : to + keptCount keys column < length memory) (in-values : from + column < length (m .values)) (in-labels : from + column < length (m .labels)) where
@@ -47,7 +47,7 @@ module _ (memory : List Cell) (keys columns column from to : ℕ) (m : Work)
         getD-take columns (drop from memory) column blank h ∙ getD-drop from memory column blank
         ∙ sym (read-below w (from + column) blank (omega arith)) ∙ cells-get m (from + column) (pos 0) in-values in-labels
 
-    pub key-written : bitAt keys column ≡ true
+    pub key-written : inMask keys column ≡ true
         → Written memory to (keptCells keys (column + 1) (rowAt columns memory from))
         (cellsIn (work (set (m .values) (to + keptCount keys column) (getD (m .values) (from + column) (pos 0))) (set (m .labels) (to + keptCount keys column) (getD (m .labels) (from + column) 0))))
     key-written e =

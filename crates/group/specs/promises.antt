@@ -2,4 +2,3 @@
 pub mod Fits
 pub mod Made
 pub mod Members
-pub mod Summaries

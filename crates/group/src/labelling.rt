@@ -13,7 +13,6 @@ ghost use Rattle.plan.specs.Numbers.{aggregateCode};
 ghost use Rattle.plan.specs.Sense.{Each};
 ghost use Rattle.cells.specs.promises.Cells.{cellsOf};
 ghost use Rattle.group.specs.promises.Members as spec;
-ghost use Rattle.group.specs.promises.Summaries as sums;
 use crate::Grouping;
 use label::Answer;
 
@@ -21,7 +20,7 @@ use label::Answer;
 pub fn group_label(labels: &[u32], next: &[usize; 256], g: Grouping, row: usize, size: u32) -> u32
     requires { ⌜ spec.Inside g (length (now labels)) ⌝ }
     requires { ⌜ (row < g .rows) × spec.Onward (g .rows) (now next) ⌝ }
-    ensures { λ r. ⌜ ((leaders : List ℕ) (values : List ℤ) → spec.Chain (g .rows) leaders (now (next .entry)) → getD leaders row 0 ≡ row → spec.Inside g (length values) → Each (spec.Allowed (g .column)) (spec.rowsFrom g (cellsOf values (now (labels .entry))) row) → r ≡ composedAfter (aggregateCode (g .aggregate)) size 0 (sums.labelsIn (g .column) (spec.members g (cellsOf values (now (labels .entry))) leaders row))) ⌝ }
+    ensures { λ r. ⌜ ((leaders : List ℕ) (values : List ℤ) → spec.Chain (g .rows) leaders (now (next .entry)) → getD leaders row 0 ≡ row → spec.Inside g (length values) → Each (spec.Allowed (g .column)) (spec.rowsFrom g (cellsOf values (now (labels .entry))) row) → r ≡ composedAfter (aggregateCode (g .aggregate)) size 0 (spec.labelsIn (g .column) (spec.members g (cellsOf values (now (labels .entry))) leaders row))) ⌝ }
 {
     let rows = g.rows;
     let columns = g.columns;

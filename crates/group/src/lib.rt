@@ -19,13 +19,3 @@ struct Grouping {
     column: usize,
     width: usize,
 }
-
-// What the aggregates of a group are made of: its rows, whether all its values are in range, their running sum, the smallest and the
-// largest.
-struct Summary {
-    rows: u32,
-    exact: bool,
-    total: i64,
-    least: i64,
-    most: i64,
-}

@@ -14,8 +14,7 @@ use crate::Grouping;
 use crate::labelling::group_label;
 use crate::leader::chain;
 use crate::leader::leaders;
-use crate::member::summary;
-use crate::member::value_of;
+use crate::member::group_values;
 use memory::LAST_SLOT;
 
 // Puts the rows of all groups in the place of the table, and answers how many there are.
@@ -66,10 +65,10 @@ fn write_group(
     requires { ⌜ (row < g .rows) × spec.Onward (g .rows) (now next) × (lastSlot ≤ to) × (to + g .width ≤ room) ⌝ }
     ensures { λ r. ⌜ ((leaders : List ℕ) → spec.Chain (g .rows) leaders (now (next .entry)) → getD leaders row 0 ≡ row → Put to (made.rowOfGroup g (spec.members g (cellsIn (work (now (values .entry)) (now (labels .entry)))) leaders row) .cells) (work (now (values .entry)) (now (labels .entry))) (work (now (values .exit)) (now (labels .exit)))) ⌝ }
 {
-    let s = summary(values, next, g, row);
-    let label = group_label(labels, next, g, row, s.rows);
+    let all = group_values(values, next, g, row);
+    let label = group_label(labels, next, g, row, all.rows);
     let aggregate = g.aggregate;
-    let value = value_of(s, aggregate);
+    let value = accumulator::value_of(all, aggregate);
     write_row(values, labels, g, row, to, value, label);
 }
 

@@ -11,7 +11,7 @@ use lib.ListN.{length, take, drop}
 use borrow.Author.Tests.{le-leb}
 use Rattle.join.specs.promises.Pairs.{labelsIn}
 use Rattle.join.specs.declared.Side.{Side}
-use Rattle.label.specs.Word.{fieldAt, bitAt}
+use Rattle.plan.specs.Masks.{inMask}
 use Rattle.cells.specs.promises.Cells.{gridOf}
 use Rattle.cells.specs.promises.Search.{placeSays, notClearAt, Reply, says}
 use Rattle.cells.specs.declared.Place.{Place}
@@ -33,7 +33,7 @@ pub key-search : (labels : List ℕ) (side : Side) (first : ℕ) (p : Place) →
     → placeSays 31 first p ≡ says (notClear (λ c. eqb c (side .key)) 31 first (labelsIn labels side))
 key-search labels side first p r c k h e =
     e ∙ rw (le-leb (side .rows) 256 r, le-leb (side .columns) 8 c, le-within (side .at) (side .rows * side .columns) (length labels) h)
-    (ap says (search-same (bitAt (1 * 2 ^ side .key % 2 ^ 32)) (λ c. eqb c (side .key)) (λ i l. one-column (side .key) i (omega arith) l) 31 (side .columns) (side .rows) first (drop (side .at) labels) c))
+    (ap says (search-same (inMask (1 * 2 ^ side .key % 2 ^ 32)) (λ c. eqb c (side .key)) (λ i l. one-column (side .key) i (omega arith) l) 31 (side .columns) (side .rows) first (drop (side .at) labels) c))
 
 pub grid-length : (columns rows : ℕ) (labels : List ℕ) → length (gridOf columns rows labels) ≡ rows
 grid-length columns zero labels = refl

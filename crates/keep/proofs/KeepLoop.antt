@@ -9,8 +9,7 @@ use native.Mathlib.Omega.{arith}
 use lib.IntN.{ℤ, pos}
 use lib.ListN.{length, getD, take, drop, set, length-append, length-set, length-map}
 use lib.Seq.{getD-take, getD-drop}
-use Rattle.label.specs.Stages.{one}
-use Rattle.label.specs.Word.{bitAt}
+use Rattle.plan.specs.Masks.{inMask}
 use Rattle.cells.specs.promises.Cells.{flat, Wide}
 use Rattle.cells.specs.promises.Work.{Work, work, cellsIn, room, Kept}
 use Rattle.cells.specs.promises.Written.{Written, CellsWritten}
@@ -30,20 +29,20 @@ use Rattle.cells.proofs.Written.{nothing-written, one-written, read-past, past-
 
 pub count-below : (mask n : ℕ) → keptCount mask n ≤ n
 count-below mask zero = omega arith
-count-below mask (suc n) = omega (arith, count-below mask n, one-small (bitAt mask n))
+count-below mask (suc n) = omega (arith, count-below mask n, one-small (inMask mask n))
   where
-    one-small : (b : Bool) → one b ≤ 1
+    one-small : (b : Bool) → cond b 1 0 ≤ 1
     one-small true = omega arith
     one-small false = omega arith
 
-pub count-next : (mask n : ℕ) (b : Bool) → bitAt mask n ≡ b → keptCount mask (n + 1) ≡ keptCount mask n + one b
-count-next mask n b e = ap (keptCount mask) (add-one n) ∙ ap (λ (b : Bool). keptCount mask n + one b) e
+pub count-next : (mask n : ℕ) (b : Bool) → inMask mask n ≡ b → keptCount mask (n + 1) ≡ keptCount mask n + cond b 1 0
+count-next mask n b e = ap (keptCount mask) (add-one n) ∙ ap (λ (b : Bool). keptCount mask n + cond b 1 0) e
 
 kept-length : (mask n : ℕ) (row : Row) → length (keptCells mask n row) ≡ keptCount mask n
 kept-length mask zero row = refl
-kept-length mask (suc n) row = length-append (keptCells mask n row) _ ∙ ap₂ _+_ (kept-length mask n row) (one-cell (bitAt mask n))
+kept-length mask (suc n) row = length-append (keptCells mask n row) _ ∙ ap₂ _+_ (kept-length mask n row) (one-cell (inMask mask n))
   where
-    one-cell : (b : Bool) → length (cond b (cellAt n row ∷ []) []) ≡ one b
+    one-cell : (b : Bool) → length (cond b (cellAt n row ∷ []) []) ≡ cond b 1 0
     one-cell true = refl
     one-cell false = refl
 
@@ -88,7 +87,7 @@ module _ {mask from to columns : ℕ} {w₀ : Work} (lower : to ≤ from) (in-me
         ∙ read-past (i .written) (from + column) blank (omega (arith, kept-length mask column (rowFrom w₀ columns from), i .next-is, i .next-le))
         ∙ sym (getD-drop from (cellsIn w₀) column blank) ∙ sym (getD-take columns (drop from (cellsIn w₀)) column blank h)
 
-    pub cell-kept : bitAt mask column ≡ true
+    pub cell-kept : inMask mask column ≡ true
         → KeepingRow mask from to columns w₀ (work (set (w .values) next (readFrom w (from + column) .value)) (set (w .labels) next (readFrom w (from + column) .label))) (next + 1) (column + 1)
     cell-kept b =
         let more : keptCells mask (column + 1) (rowFrom w₀ columns from) ≡ keptCells mask column (rowFrom w₀ columns from) ++ (cellAt column (rowFrom w₀ columns from) ∷ [])
@@ -107,7 +106,7 @@ module _ {mask from to columns : ℕ} {w₀ : Work} (lower : to ≤ from) (in-me
           same = kept-set next _ _ (omega (arith, i .next-le)) (i .same);
         }
 
-    pub cell-left : bitAt mask column ≡ false → KeepingRow mask from to columns w₀ w next (column + 1)
+    pub cell-left : inMask mask column ≡ false → KeepingRow mask from to columns w₀ w next (column + 1)
     cell-left b =
         let less : keptCells mask (column + 1) (rowFrom w₀ columns from) ≡ keptCells mask column (rowFrom w₀ columns from)
         = ap (λ (n : ℕ). keptCells mask n (rowFrom w₀ columns from)) (add-one column) ∙ ap (λ (b : Bool). keptCells mask column (rowFrom w₀ columns from) ++ cond b (cellAt column (rowFrom w₀ columns from) ∷ []) []) b ∙ append-nil _ in

@@ -1,5 +1,5 @@
 -- The laws of what goes by a step's kind. Assumes nothing.
-use Prim.Native.Nat.{ℕ, zero, suc, _+_, _≤_, _<_}
+use Prim.Native.Nat.{ℕ, zero, suc, _+_, _/_, _%_, _^_, _≤_, _<_}
 use mathlib.Core.Path.{_≡_, refl, sym, ap}
 use mathlib.Core.Bool.{Bool, true, false, cond, and-eq-true-iff}
 use mathlib.Core.List.{List, [], _∷_}
@@ -8,8 +8,7 @@ use native.Mathlib.Omega.{arith}
 use lib.Dec.{eqb, leb, ltb, lit<}
 use lib.ListN.{getD}
 use borrow.Author.Tests.{leb-true, ltb-true}
-use Rattle.label.specs.Stages.{one}
-use Rattle.label.specs.Word.{fieldAt, bitAt}
+use Rattle.plan.specs.Masks.{inMask}
 use Rattle.plan.specs.Keep.{keptCount}
 use Rattle.plan.specs.Steps.{takes}
 use Rattle.plan.specs.Widths.{enoughTables, columnsExist, madeColumns, placed}
@@ -58,20 +57,20 @@ two-looked-at (Keep mask) tables stack = (refl, refl)
 two-looked-at (Apply column transform) tables stack = (refl, refl)
 two-looked-at (Group keys aggregate column) tables stack = (refl, refl)
 
-one-le : (t : Bool) → one t ≤ 1
+one-le : (t : Bool) → cond t 1 0 ≤ 1
 one-le true = omega arith
 one-le false = omega arith
 
 pub kept-le : (mask width : ℕ) → keptCount mask width ≤ width
 kept-le mask zero = omega arith
-kept-le mask (suc width) = omega (arith, kept-le mask width, one-le (bitAt mask width))
+kept-le mask (suc width) = omega (arith, kept-le mask width, one-le (inMask mask width))
 
-digit : (d : ℕ) → d < 2 → d ≡ one (eqb d 1)
+digit : (d : ℕ) → d < 2 → d ≡ cond (eqb d 1) 1 0
 digit zero h = refl
 digit (suc zero) h = refl
 digit (suc (suc d)) h = absurd (omega arith)
 
 -- one column more
-pub kept-more : (mask column : ℕ) → keptCount mask (suc column) ≡ keptCount mask column + fieldAt mask column 1
-unfolding fieldAt
+pub kept-more : (mask column : ℕ) → keptCount mask (suc column) ≡ keptCount mask column + mask / 2 ^ column % 2
+unfolding inMask
 kept-more mask column = ap (λ (d : ℕ). keptCount mask column + d) (sym (digit _ (mod-lt _ (lit< tt))))

@@ -12,10 +12,11 @@ use lib.ListN.{length, getD, length-map, List·getD-map}
 use borrow.Author.Tests.{eqb-true, eq-eqb, not-true}
 use Rattle.label.specs.Discharge.{forbidsT, forbidsA}
 use Rattle.label.specs.Stages.{highest}
-use Rattle.label.specs.Word.{fieldAt, bitAt}
+use Rattle.label.specs.Word.{fieldAt}
 use Rattle.plan.specs.Apply.{operandClear, secondClear, applyRow, checkApply}
 use Rattle.plan.specs.Evaluate.{overIn, firstOver, checkRelease}
 use Rattle.plan.specs.Filter.{readBy, checkFilter}
+use Rattle.plan.specs.Masks.{inMask}
 use Rattle.plan.specs.Group.{checkGroup}
 use Rattle.plan.specs.Join.{checkJoin}
 use Rattle.plan.specs.Sense.Refusals.{Place, place, FirstAt, nowhere, at, RowByRow, NumberByNumber, InEachRow, rowAt, cellIn, NotClear, OperandColumn, FilterRefusal, JoinRefusal, GroupRefusal, SecondColumn, ApplyRefusal, ReleaseRefusal}
@@ -256,7 +257,7 @@ group-refusal keys aggregate column stack =
     rw (grid-at 0 stack, rows-walk test 0 (grid table))
     (first-same (λ p. ⊎-elim (λ t. let f = in-table t in inl (f .0, f .1 .0, f .1 .1)) (λ t. let f = in-table t in inr (f .0, f .1 .0, rw (← label-at table (p .row) (p .column)) (f .1 .1))))
     (λ p. ⊎-elim (λ f. inl (to-table _ p (f .0) (f .1, f .2))) (λ f. inr (to-table _ p (f .0) (f .1, rw (label-at table (p .row) (p .column)) (f .2)))))
-    (first-or (λ p q f g. ⊎-elim (λ l. omega arith) (λ l. omega arith)) (first-unclear by-number (bitAt keys) 31 table 0)
+    (first-or (λ p q f g. ⊎-elim (λ l. omega arith) (λ l. omega arith)) (first-unclear by-number (inMask keys) 31 table 0)
     (first-in-table by-number 32 [] (Forbidden forbidsA column) (λ c f. clash (f .1) clear-allows-A) test (first-forbidden by-number forbidsA column) 0 (grid table))))
 
 -- the second operand's column of a row, where its label is not clear

@@ -7,7 +7,7 @@ use mathlib.Core.List.{List, _∷_, map}
 use lib.ListN.{getD, List·getD-map}
 use Rattle.label.specs.Composition.{composed}
 use Rattle.label.specs.Discharge.{allowsAggregate, forbidsA, afterA}
-use Rattle.label.specs.Word.{bitAt}
+use Rattle.plan.specs.Masks.{inMask}
 use Rattle.plan.specs.Group.{checkGroup, sameKeys, anySame, groupsAfter, groupSize, aggregateValue, composedAfter, groupRow, grouped}
 use Rattle.plan.specs.Keep.{keptCount}
 use Rattle.plan.specs.Locked.{groupsAt, anyStep, locked}
@@ -30,7 +30,7 @@ either-same false p q e = refl
 
 module _ (plan : List Step) (keys column : ℕ) where
   abbrev keyTest : ℕ → List ℕ → Verdict
-  keyTest = firstNotClear (bitAt keys) 31 0
+  keyTest = firstNotClear (inMask keys) 31 0
 
   abbrev freeTest : ℕ → List ℕ → Verdict
   freeTest row cells = refuseIf (forbidsA (getD cells column 0)) 32 row column
@@ -50,8 +50,8 @@ module _ (plan : List Step) (keys column : ℕ) where
   same-keys zero r s = refl
   same-keys (suc n) {a} {b} {c} {d} r s =
       ap₂ _&&_ (same-keys n r s)
-      (either-same (bitAt keys n) (same (cellAt n a .value) (cellAt n c .value)) (same (cellAt n b .value) (cellAt n d .value))
-      (λ w. ap₂ same (read-same plan (bitAt keys) 31 n w (r .keyed)) (read-same plan (bitAt keys) 31 n w (s .keyed))))
+      (either-same (inMask keys n) (same (cellAt n a .value) (cellAt n c .value)) (same (cellAt n b .value) (cellAt n d .value))
+      (λ w. ap₂ same (read-same plan (inMask keys) 31 n w (r .keyed)) (read-same plan (inMask keys) 31 n w (s .keyed))))
 
   module _ (columns : ℕ) where
     any-same : {a b : Row} → Ready a b → {xs ys : List Row} → Pairwise Ready xs ys → anySame keys columns a xs ≡ anySame keys columns b ys
@@ -93,7 +93,7 @@ module _ (plan : List Step) (keys column : ℕ) where
     pub group-alike : {a b : Table} → AlikeTables plan a b → checkGroup keys column (grid a) ≡ fine → AlikeTables plan (grouped keys aggregate column a) (grouped keys aggregate column b)
     unfolding checkGroup grouped
     group-alike {a} {b} t e =
-        let h = or-fine (notClear (bitAt keys) 31 0 (grid a)) (firstRow freeTest 0 (grid a)) e in
+        let h = or-fine (notClear (inMask keys) 31 0 (grid a)) (firstRow freeTest 0 (grid a)) e in
         let rows = ready (tested plan keyTest 0 (t .rows) (h .0)) (tested plan freeTest 0 (t .rows) (h .1)) in
         record {
           columns = ap (λ (n : ℕ). keptCount keys n + 1) (t .columns);

@@ -2,7 +2,7 @@
 use Prim.Native.Nat.{ℕ, zero, suc}
 use mathlib.Core.Path.{refl, ap}
 use mathlib.Core.List.{List}
-use Rattle.label.specs.Word.{bitAt}
+use Rattle.plan.specs.Masks.{inMask}
 use Rattle.plan.specs.Keep.{keptCount, keptCells, keptRow, kept}
 use Rattle.plan.specs.Secrecy.{Pairwise, none, more, AlikeCells, AlikeRows, AlikeTables}
 use Rattle.plan.specs.Table.{Row, Table}
@@ -14,7 +14,7 @@ module _ (plan : List Step) (mask : ℕ) where
   pub kept-cells-alike : (columns : ℕ) {a b : Row} → AlikeRows plan a b → Pairwise (AlikeCells plan) (keptCells mask columns a) (keptCells mask columns b)
   kept-cells-alike zero r = none
   kept-cells-alike (suc column) r =
-      both-append (kept-cells-alike column r) (both-cond (bitAt mask column) (bitAt mask column) refl (more (cells-alike plan column r) none) none)
+      both-append (kept-cells-alike column r) (both-cond (inMask mask column) (inMask mask column) refl (more (cells-alike plan column r) none) none)
 
   pub keep-alike : {a b : Table} → AlikeTables plan a b → AlikeTables plan (kept mask a) (kept mask b)
   unfolding kept

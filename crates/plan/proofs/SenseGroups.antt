@@ -5,7 +5,7 @@ use mathlib.Core.Bool.{Bool, true, false, not, _||_, false≢true}
 use native.Mathlib.Omega.{arith}
 use lib.Dec.{ltb}
 use borrow.Author.Tests.{ltb-true, ltb-false}
-use Rattle.label.specs.Word.{bitAt}
+use Rattle.plan.specs.Masks.{inMask}
 use Rattle.plan.specs.Group.{sameKeys}
 use Rattle.plan.specs.Sense.Groups.{SameKeysMeans}
 use Rattle.plan.specs.Table.{Row, cellAt}
@@ -23,14 +23,14 @@ unmasked true p e t = e
 unmasked false p e t = absurd (false≢true t)
 
 abbrev Agree : ℕ → Row → Row → ℕ → Type 0
-Agree keys a b column = bitAt keys column ≡ true → same (cellAt column a .value) (cellAt column b .value) ≡ true
+Agree keys a b column = inMask keys column ≡ true → same (cellAt column a .value) (cellAt column b .value) ≡ true
 
 module _ (keys : ℕ) (a b : Row) where
   agree : (columns : ℕ) → sameKeys keys columns a b ≡ true → (column : ℕ) → column < columns → Agree keys a b column
   agree zero e column h = absurd (omega arith)
   agree (suc n) e column h =
       let s = and-true (sameKeys keys n a b) _ e in
-      earlier-or-last (ltb column n) refl (agree n (s .0) column) (unmasked (bitAt keys n) _ (s .1))
+      earlier-or-last (ltb column n) refl (agree n (s .0) column) (unmasked (inMask keys n) _ (s .1))
     where
       earlier-or-last : (t : Bool) → ltb column n ≡ t → (column < n → Agree keys a b column) → Agree keys a b n → Agree keys a b column
       earlier-or-last true l f g = f (ltb-true column n l)
@@ -39,7 +39,7 @@ module _ (keys : ℕ) (a b : Row) where
   agreed : (columns : ℕ) → ((column : ℕ) → column < columns → Agree keys a b column) → sameKeys keys columns a b ≡ true
   agreed zero f = refl
   agreed (suc n) f =
-      rw (agreed n (λ column h. f column (omega arith))) (masked (bitAt keys n) _ (f n (omega arith)))
+      rw (agreed n (λ column h. f column (omega arith))) (masked (inMask keys n) _ (f n (omega arith)))
 
 pub same-keys-means : SameKeysMeans
 same-keys-means keys columns a b = (agree keys a b columns, agreed keys a b columns)

@@ -7,7 +7,7 @@ use lib.IntN.{ℤ, pos}
 use lib.ListN.{length, getD}
 use Rattle.label.specs.Composition.{composed}
 use Rattle.label.specs.Discharge.{forbidsA, afterA}
-use Rattle.label.specs.Word.{bitAt}
+use Rattle.plan.specs.Masks.{inMask}
 use Rattle.plan.specs.Filter.{passing}
 use Rattle.plan.specs.Keep.{keptCount, keptCells}
 use Rattle.plan.specs.Numbers.{aggregateCode}
@@ -22,12 +22,12 @@ use Rattle.value.specs.Range.{OVER, settled}
 -- "31: .. GROUP key is not clear." "32: .. In GROUP, after all keys."
 unfoldable pub checkGroup : ℕ → ℕ → List (List ℕ) → Verdict
 checkGroup keys column labels =
-    orElse (notClear (bitAt keys) 31 0 labels) (firstRow (λ row cells. refuseIf (forbidsA (getD cells column 0)) 32 row column) 0 labels)
+    orElse (notClear (inMask keys) 31 0 labels) (firstRow (λ row cells. refuseIf (forbidsA (getD cells column 0)) 32 row column) 0 labels)
 
 -- the rows have the same keys; "OVER group keys are equal"
 abbrev pub sameKeys : ℕ → ℕ → Row → Row → Bool
 sameKeys keys zero a b = true
-sameKeys keys (suc column) a b = sameKeys keys column a b && (not (bitAt keys column) || same (cellAt column a .value) (cellAt column b .value))
+sameKeys keys (suc column) a b = sameKeys keys column a b && (not (inMask keys column) || same (cellAt column a .value) (cellAt column b .value))
 
 abbrev pub anySame : ℕ → ℕ → Row → List Row → Bool
 anySame keys columns row [] = false

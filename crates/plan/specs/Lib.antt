@@ -8,6 +8,7 @@ pub mod Join
 pub mod Operands
 pub mod Filter
 pub mod Keep
+pub mod Masks
 pub mod Apply
 pub mod Group
 pub mod Steps

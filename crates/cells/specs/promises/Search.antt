@@ -4,7 +4,7 @@ use mathlib.Core.Bool.{Bool, cond, _&&_}
 use mathlib.Core.List.{List}
 use lib.Dec.{leb}
 use lib.ListN.{length, drop}
-use Rattle.label.specs.Word.{bitAt}
+use Rattle.plan.specs.Masks.{inMask}
 use Rattle.cells.specs.promises.Cells.{within, gridOf}
 use Rattle.cells.specs.declared.Place.{Place}
 use Rattle.cells.specs.declared.Place.the-variants as place
@@ -28,4 +28,4 @@ placeSays number first place.DoesNotFit = unfit
 -- the first cell, in the columns of a mask, that is not clear
 abbrev pub notClearAt : ℕ → ℕ → List ℕ → ℕ → ℕ → ℕ → ℕ → Reply
 notClearAt number first labels at rows columns mask =
-    cond (tableWithin at rows columns (length labels)) (says (notClear (bitAt mask) number first (gridOf columns rows (drop at labels)))) unfit
+    cond (tableWithin at rows columns (length labels)) (says (notClear (inMask mask) number first (gridOf columns rows (drop at labels)))) unfit

@@ -2,8 +2,9 @@
 use Prim.Native.Nat.{ℕ, suc, _+_, _-_, _*_, _≤_, _<_}
 use mathlib.Core.Path.{_≡_}
 use mathlib.Core.Bool.{true, false, cond}
-use mathlib.Core.List.{List, [], _∷_, _++_}
+use mathlib.Core.List.{List, [], _∷_, _++_, map}
 use lib.Dec.{eqb}
+use lib.IntN.{ℤ}
 use lib.ListN.{length, getD, take, drop}
 use Rattle.group.specs.declared.Grouping.{Grouping}
 use Rattle.label.specs.Discharge.{forbidsA}
@@ -111,3 +112,10 @@ AllowedLabel label = (wellFormed label ≡ true) × (forbidsA label ≡ false)
 
 abbrev pub Allowed : ℕ → Row → Type 0
 Allowed column row = AllowedLabel (cellAt column row .label)
+
+-- the values of a column of rows, and the labels
+abbrev pub valuesIn : ℕ → List Row → List ℤ
+valuesIn column rows = map (λ cell. cell .value) (map (cellAt column) rows)
+
+abbrev pub labelsIn : ℕ → List Row → List ℕ
+labelsIn column rows = map (λ cell. cell .label) (map (cellAt column) rows)

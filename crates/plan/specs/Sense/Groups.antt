@@ -4,7 +4,7 @@ use mathlib.Core.Path.{_≡_}
 use mathlib.Core.Bool.{Bool, true, false}
 use mathlib.Core.List.{List, [], _∷_, _++_, map}
 use mathlib.Core.Logic.{_↔_}
-use Rattle.label.specs.Word.{bitAt}
+use Rattle.plan.specs.Masks.{inMask}
 use Rattle.plan.specs.Group.{sameKeys, groupsAfter, groupRow}
 use Rattle.plan.specs.Sense.{Each}
 use Rattle.plan.specs.Sense.Rows.{Sifted}
@@ -24,7 +24,7 @@ GroupRows = (keys : ℕ) (aggregate : Aggregate) (column : ℕ) (tables stack : 
 abbrev pub SameKeysMeans : Type 0
 SameKeysMeans = (keys columns : ℕ) (a b : Row)
     → (sameKeys keys columns a b ≡ true)
-    ↔ ((column : ℕ) → column < columns → bitAt keys column ≡ true → same (cellAt column a .value) (cellAt column b .value) ≡ true)
+    ↔ ((column : ℕ) → column < columns → inMask keys column ≡ true → same (cellAt column a .value) (cellAt column b .value) ≡ true)
 
 -- each group has a row, and is exactly the table's rows with that row's keys, in their order
 abbrev pub Whole : ℕ → ℕ → List Row → List Row → Type 0

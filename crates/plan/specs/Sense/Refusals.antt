@@ -7,7 +7,7 @@ use mathlib.Core.List.{List, [], map}
 use mathlib.Core.Logic.{_⊎_}
 use lib.ListN.{length, getD}
 use Rattle.label.specs.Discharge.{forbidsT, forbidsA}
-use Rattle.label.specs.Word.{bitAt}
+use Rattle.plan.specs.Masks.{inMask}
 use Rattle.plan.specs.Evaluate.{checkRelease}
 use Rattle.plan.specs.Steps.{check}
 use Rattle.plan.specs.Table.{Row, Cell, Table, clear, cellAt, top, second, grid}
@@ -87,7 +87,7 @@ JoinRefusal = (a b : ℕ) (stack : List Table) → FirstAt RowByRow (JoinFails a
 -- "32: .. GROUP forbidden by the first operand's label. In GROUP, after all keys."
 abbrev pub GroupFails : ℕ → ℕ → Table → Place → Type 0
 GroupFails keys column table p =
-    ((p .number ≡ 31) × (bitAt keys (p .column) ≡ true) × NotClear table (p .row) (p .column))
+    ((p .number ≡ 31) × (inMask keys (p .column) ≡ true) × NotClear table (p .row) (p .column))
     ⊎ ((p .number ≡ 32) × (p .column ≡ column) × (forbidsA (cellIn table (p .row) (p .column) .label) ≡ true))
 
 abbrev pub GroupRefusal : Type 0

@@ -7,7 +7,7 @@ use lib.IntN.{ℤ}
 use lib.ListN.{length, getD, drop}
 use borrow.Author.Needs.{needs}
 use Rattle.group.specs.promises.Members.{rowAt, chosen, Allowed, Chain, Onward}
-use Rattle.group.specs.promises.Summaries.{labelsIn}
+use Rattle.group.specs.promises.Members.{labelsIn}
 use Rattle.label.specs.Composition.{composed}
 use Rattle.label.specs.Discharge.{afterA}
 use Rattle.cells.specs.promises.Cells.{cellsOf}

@@ -9,7 +9,7 @@ use lib.ListN.{length}
 use borrow.Author.Needs.{needs}
 use borrow.Author.Tests.{eq-eqb, ne-eqb, not-true, not-false}
 use Rattle.group.specs.promises.Members.{rowAt}
-use Rattle.label.specs.Word.{fieldAt}
+use Rattle.plan.specs.Masks.{inMask}
 use Rattle.cells.specs.promises.Cells.{cellsOf}
 use Rattle.plan.specs.Group.{sameKeys}
 use Rattle.comparison.specs.Comparison.{same}
@@ -58,7 +58,7 @@ same-requires c κs = search needs
 compared : (c : tie.After-same Inv-loop μ-loop) (labels : List ℕ) → let a = c .before .before .before .before .before .before .args in
     a .first + a .columns ≤ length labels → a .second + a .columns ≤ length labels
     → c .same .result ≡ sameKeys (a .keys) (c .before .before .before .before .before .loop .column + 1) (rowAt (a .columns) (cellsOf (a .values .now) labels) (a .first)) (rowAt (a .columns) (cellsOf (a .values .now) labels) (a .second))
-unfolding fieldAt
+unfolding inMask
 compared c labels p q =
     let s = c .before .before .before .before .before .before in
     let a = s .args in
@@ -82,7 +82,7 @@ loop-less : tie.Need-loop-less Inv-loop μ-loop
 loop-less c = omega arith
 
 loop-again : tie.Need-loop-again Inv-loop μ-loop
-unfolding fieldAt
+unfolding inMask
 loop-again c =
     let l = c .before .before .loop in (
       omega arith,

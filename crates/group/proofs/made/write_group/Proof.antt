@@ -3,7 +3,7 @@ use mathlib.Core.Path.{_≡_, _∙_}
 use lib.ListN.{length}
 use borrow.Author.Needs.{needs}
 use Rattle.group.specs.promises.Members.{Inside, Allowed, members, rowsFrom, rowsIn}
-use Rattle.group.specs.promises.Summaries.{valuesIn, labelsIn}
+use Rattle.group.specs.promises.Members.{valuesIn, labelsIn}
 use Rattle.cells.specs.promises.Work.{work, cellsIn}
 use Rattle.plan.specs.Group.{aggregateValue, composedAfter}
 use Rattle.plan.specs.Numbers.{aggregateCode}
@@ -14,8 +14,8 @@ use Rattle.value.proofs.Machine.{back-is}
 use Rattle.group.proofs.made.write_group.Statement.{statement}
 use Rattle.group.proofs.made.write_group.Tie as tie
 
-summary-requires : tie.Need-summary-requires
-summary-requires c κs = search needs
+group-values-requires : tie.Need-group-values-requires
+group-values-requires c κs = search needs
 
 group-label-requires : tie.Need-group-label-requires
 group-label-requires c κs = search needs
@@ -44,12 +44,12 @@ returns c = λ leaders chain e.
     let M = cellsIn (work (a .values .now) (a .labels .now)) in
     let in-values : Inside (a .g) (length (a .values .now)) = search needs in
     let in-labels : Inside (a .g) (length (a .labels .now)) = search needs in
-    let sum = u .summary .ensures leaders (a .labels .now) chain e in-labels in
+    let sum = u .group-values .ensures leaders (a .labels .now) chain e in-labels in
     let group = members (a .g) M leaders (a .row) in
     let allowed : Each (Allowed (a .g .column)) (rowsFrom (a .g) M (a .row)) = rw rows-left (each-drop (Allowed (a .g .column)) (a .row) (rowsIn (a .g) M) (p .1 .0)) in
-    let size = size-is (a .g) M leaders (a .row) (u .summary .result) (p .0 .few-rows) (p .1 .1 .0) sum in
+    let size = size-is (a .g) M leaders (a .row) (u .group-values .result) (p .0 .few-rows) (p .1 .1 .0) sum in
     let value : v .value-of .result ≡ aggregateValue (a .g .aggregate) (valuesIn (a .g .column) group)
-    = v .value-of .ensures ∙ aggregate-is (a .g) M leaders (a .row) (u .summary .result) (p .0 .few-rows) (p .1 .1 .0) sum in
+    = v .value-of .ensures ∙ aggregate-is (a .g) M leaders (a .row) (u .group-values .result) (p .0 .few-rows) (p .1 .1 .0) sum in
     let label : l .group-label .result ≡ composedAfter (aggregateCode (a .g .aggregate)) (length group) 0 (labelsIn (a .g .column) group)
     = rw size at (l .group-label .ensures leaders (a .values .now) chain e in-values allowed) in
     rw (back-is (v .value-of .result) (v .value-of .ok), value, label) at (r .write-row .ensures)
@@ -58,7 +58,7 @@ pub write-group-spec : {M : Type 1} → statement M
 write-group-spec =
     tie.close
     (tie.spec
-    summary-requires
+    group-values-requires
     group-label-requires
     value-of-requires
     write-row-requires

@@ -7,7 +7,7 @@ use lib.ListN.{length, length-set}
 use mir.Facts.{toZ-ofZ}
 use borrow.Author.Tests.{eq-eqb, ne-eqb}
 use Rattle.group.specs.promises.Members.{rowAt}
-use Rattle.label.specs.Word.{fieldAt}
+use Rattle.plan.specs.Masks.{inMask}
 use Rattle.cells.specs.promises.Work.{work, cellsIn, room, Kept}
 use Rattle.cells.specs.promises.Written.{CellsWritten}
 use Rattle.memory.specs.promises.Stack.{lastSlot}
@@ -97,7 +97,7 @@ loop-less : tie.Need-loop-less Inv-loop μ-loop
 loop-less c = omega arith
 
 loop-again : tie.Need-loop-again Inv-loop μ-loop
-unfolding fieldAt
+unfolding inMask
 loop-again c =
     let a = c .before .before .before .args in
     let l = c .before .before .loop in

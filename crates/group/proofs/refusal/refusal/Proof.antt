@@ -5,7 +5,7 @@ use borrow.Author.Needs.{needs}
 use borrow.Author.Tests.{le-leb}
 use Rattle.cells.specs.promises.Search.{says, placeSays}
 use Rattle.group.specs.promises.Members.{gridIn}
-use Rattle.label.specs.Word.{bitAt}
+use Rattle.plan.specs.Masks.{inMask}
 use Rattle.memory.specs.declared.Refusal.the-variants.{NotClear}
 use Rattle.plan.specs.Group.{checkGroup}
 use Rattle.plan.specs.Verdict.{refused, notClear}
@@ -15,7 +15,7 @@ use Rattle.group.proofs.refusal.refusal.Statement.{statement}
 use Rattle.group.proofs.refusal.refusal.Tie as tie
 
 -- the first key that is not clear
-keys : (c : tie.After-not-clear) → let a = c .before .before .args in placeSays 31 0 (c .not-clear .result) ≡ says (notClear (bitAt (a .g .keys)) 31 0 (gridIn (a .g) (a .labels .now)))
+keys : (c : tie.After-not-clear) → let a = c .before .before .args in placeSays 31 0 (c .not-clear .result) ≡ says (notClear (inMask (a .g .keys)) 31 0 (gridIn (a .g) (a .labels .now)))
 keys c =
     let i = c .before .before .pre .0 in
     c .not-clear .ensures 31 0 ∙ rw (le-leb _ 256 (i .few-rows), le-leb _ 8 (i .few-columns), le-within _ _ _ (i .within))

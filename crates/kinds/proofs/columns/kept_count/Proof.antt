@@ -4,7 +4,7 @@ use mathlib.Core.Path.{_≡_, refl, ap, _∙_}
 use native.Mathlib.Numerals.{add-one}
 use native.Mathlib.Omega.{arith}
 use borrow.Author.Needs.{needs}
-use Rattle.label.specs.Word.{fieldAt}
+use Rattle.plan.specs.Masks.{inMask}
 use Rattle.plan.specs.Keep.{keptCount}
 use Rattle.kinds.proofs.Laws.{kept-le, kept-more}
 use Rattle.kinds.proofs.columns.kept_count.Statement.{statement}
@@ -38,7 +38,7 @@ loop-less : tie.Need-loop-less Inv-loop μ-loop
 loop-less c = search needs
 
 loop-again : tie.Need-loop-again Inv-loop μ-loop
-unfolding fieldAt
+unfolding inMask
 loop-again c = (omega arith, rw (add-one (c .before .loop .column), kept-more (c .before .before .args .mask) (c .before .loop .column), ← c .before .loop .inv .1))
 
 returns : tie.Need-returns Inv-loop μ-loop

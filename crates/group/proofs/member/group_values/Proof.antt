@@ -1,12 +1,12 @@
--- `group::member::summary` meets its contract. The loop: the summary is what is left of it, after the members met. Assumes nothing.
+-- `group::member::group_values` meets its contract. The loop: what is accumulated is what is left of it, after the members met. Assumes nothing.
 use Prim.Native.Nat.{ℕ, _+_, _-_, _*_, _≤_, _<_}
 use mathlib.Core.Path.{_≡_, sym, ap, _∙_}
 use mathlib.Core.List.{List}
 use native.Mathlib.Omega.{arith}
 use lib.ListN.{length, getD, drop}
 use borrow.Author.Needs.{needs}
-use Rattle.group.specs.promises.Members.{rowAt, chosen, Chain, Onward}
-use Rattle.group.specs.promises.Summaries.{summaryFrom, single, withValue, valuesIn}
+use Rattle.accumulator.specs.promises.Accumulators.{single, withValue, withValues}
+use Rattle.group.specs.promises.Members.{rowAt, chosen, Chain, Onward, valuesIn}
 use Rattle.cells.specs.promises.Cells.{cellsOf}
 use Rattle.plan.specs.Table.{Row, cellAt, rowsOf}
 use Rattle.group.proofs.Choosing.{next-led, next-left, member-next}
@@ -14,14 +14,14 @@ use Rattle.group.proofs.Reading.{value-read}
 use Rattle.group.proofs.Walking.{walk-from, walk-to, inside-other}
 use Rattle.cells.proofs.Columns.{Walking, inside}
 use Rattle.value.proofs.Machine.{back-is}
-use Rattle.group.proofs.member.summary.Statement.{statement}
-use Rattle.group.proofs.member.summary.Tie as tie
+use Rattle.group.proofs.member.group_values.Statement.{statement}
+use Rattle.group.proofs.member.group_values.Tie as tie
 
 abbrev Inv-loop : tie.InvT-loop
-Inv-loop values next row rows columns column at first s₀ other₀ s other = Walking (length values) at rows columns column other (at + other * columns) × (row < other) × Onward rows next × (s .rows ≤ other) × ((leaders labels : List ℕ) → Chain rows leaders next → getD leaders row 0 ≡ row → at + rows * columns ≤ length labels → (other < rows → getD leaders other 0 ≡ row) × (summaryFrom s₀ (valuesIn column (chosen row (drop (row + 1) leaders) (rowsOf columns (rows - (row + 1)) (drop (at + (row + 1) * columns) (cellsOf values labels))))) ≡ summaryFrom s (valuesIn column (chosen row (drop other leaders) (rowsOf columns (rows - other) (drop (at + other * columns) (cellsOf values labels)))))))
+Inv-loop values next row rows columns column at first all₀ other₀ all other = Walking (length values) at rows columns column other (at + other * columns) × (row < other) × Onward rows next × ((leaders labels : List ℕ) → Chain rows leaders next → getD leaders row 0 ≡ row → at + rows * columns ≤ length labels → (other < rows → getD leaders other 0 ≡ row) × (withValues all₀ (valuesIn column (chosen row (drop (row + 1) leaders) (rowsOf columns (rows - (row + 1)) (drop (at + (row + 1) * columns) (cellsOf values labels))))) ≡ withValues all (valuesIn column (chosen row (drop other leaders) (rowsOf columns (rows - other) (drop (at + other * columns) (cellsOf values labels)))))))
 
 abbrev μ-loop : tie.MeasureT-loop
-μ-loop values next row rows columns column at first s₀ other₀ s other = rows - other
+μ-loop values next row rows columns column at first all₀ other₀ all other = rows - other
 
 -- the group's first row is within the values
 first : (c : tie.Start Inv-loop μ-loop) → let g = c .args .g in g .at + c .args .row * g .columns + g .columns ≤ length (c .args .values .now)
@@ -60,10 +60,9 @@ loop-holds c =
       walk-to _ (walk-from (a .g) (length (a .values .now)) (a .row) (p .0) (omega arith)) (p .1 .1 .upto (a .row) h),
       further,
       p .1 .1,
-      rw (c .before .single .ensures) (omega arith),
       λ leaders labels chain e q.
           let M = cellsOf (a .values .now) labels in
-          (next-led chain (a .row) (a .g .columns) (a .g .at) M (a .row) h e, ap (λ (l : List Row). summaryFrom (c .before .single .result) (valuesIn (a .g .column) l)) (next-left chain (a .row) (a .g .columns) (a .g .at) M (a .row) h e)),
+          (next-led chain (a .row) (a .g .columns) (a .g .at) M (a .row) h e, ap (λ (l : List Row). withValues (c .before .single .result) (valuesIn (a .g .column) l)) (next-left chain (a .row) (a .g .columns) (a .g .at) M (a .row) h e)),
     )
 
 mul-place : tie.Need-mul-place Inv-loop μ-loop
@@ -82,7 +81,7 @@ shared-slice-copy-out-with-value : tie.Need-shared-slice-copy-out-with-value Inv
 shared-slice-copy-out-with-value c = omega (arith, inside (c .before .loop .inv .0) (c .loop-test .taken))
 
 with-value-requires : tie.Need-with-value-requires Inv-loop μ-loop
-with-value-requires c κs = omega (arith, c .before .before .loop .inv .0 .few-rows)
+with-value-requires c κs = search needs
 
 mul-other-2 : tie.Need-mul-other-2 Inv-loop μ-loop
 mul-other-2 c = omega (arith, c .before .before .before .loop .inv .0 .few-rows)
@@ -103,13 +102,12 @@ loop-again c =
       walk-to _ (i .0) (i .2 .upto (l .other) h),
       omega arith,
       i .2,
-      rw (c .before .with-value .ensures) (omega arith),
       λ leaders labels chain e q.
           let M = cellsOf (a .values .now) labels in
-          let t = i .4 leaders labels chain e q in
+          let t = i .3 leaders labels chain e q in
           let v = value-read (a .values .now) labels (a .g .columns) (a .g .at + l .other * a .g .columns) (a .g .column) (i .0 .has-column) (inside (i .0) h) (inside-other (length labels) (i .0) h q) in
-          let more : c .before .with-value .result ≡ withValue (l .s) (cellAt (a .g .column) (rowAt (a .g .columns) M (a .g .at + l .other * a .g .columns)) .value)
-          = c .before .with-value .ensures ∙ ap (withValue (l .s)) (back-is _ (c .before .before .with-value-arg .given) ∙ sym v) in
+          let more : c .before .with-value .result ≡ withValue (l .all) (cellAt (a .g .column) (rowAt (a .g .columns) M (a .g .at + l .other * a .g .columns)) .value)
+          = c .before .with-value .ensures ∙ ap (withValue (l .all)) (back-is _ (c .before .before .with-value-arg .given) ∙ sym v) in
           (next-led chain (a .row) (a .g .columns) (a .g .at) M (l .other) h (t .0 h), t .1 ∙ rw (more, member-next chain (a .row) (a .g .columns) (a .g .at) M (l .other) h (t .0 h))),
     )
 
@@ -126,10 +124,10 @@ returns c =
     let v = value-read (a .values .now) labels (a .g .columns) place (a .g .column) (q .has-column) (first s) (inside walk (s .pre .1 .0)) in
     let start : c .before .before .before .single .result ≡ single (cellAt (a .g .column) (rowAt (a .g .columns) M place) .value)
     = c .before .before .before .single .ensures ∙ ap single (back-is _ (c .before .before .before .before .single-arg .given) ∙ sym v) in
-    rw (← start) (sym (rw z at (l .inv .4 leaders labels chain e (q .within) .1)))
+    rw (← start) (sym (rw z at (l .inv .3 leaders labels chain e (q .within) .1)))
 
-pub summary-spec : {M : Type 1} → statement M
-summary-spec =
+pub group-values-spec : {M : Type 1} → statement M
+group-values-spec =
     tie.close
     (tie.spec
     Inv-loop

@@ -1,9 +1,9 @@
--- `group::member::single` meets its contract. Assumes nothing.
+-- `accumulator::single` meets its contract. Assumes nothing.
 use mir.Facts.{toZ-ofZ}
 use borrow.Author.Needs.{needs}
 use Rattle.value.proofs.Machine.{back-is}
-use Rattle.group.proofs.member.single.Statement.{statement}
-use Rattle.group.proofs.member.single.Tie as tie
+use Rattle.accumulator.proofs.single.Statement.{statement}
+use Rattle.accumulator.proofs.single.Tie as tie
 
 in-range-requires : tie.Need-in-range-requires
 in-range-requires c κs = search needs

@@ -1,0 +1,2 @@
+-- The values of a group, taken one after the other.
+pub mod Accumulators
