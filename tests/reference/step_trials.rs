@@ -10,6 +10,10 @@
 //! and the one that all others are. `; one more` is a fourth table. What stands
 //! behind `#` is read and not printed.
 //!
+//! A line of the output is that of the input up to `#`, and the answer. So what
+//! the program prints of a case, which it takes from the step that it read and
+//! from memory, is held to the input as its answer is held to the rules.
+//!
 //! "does not fit" is said where document 01 has no such step: less work memory
 //! than 1 asks for, a stack or a table larger than there are, a step that 17 to
 //! 19 refuse, a SCAN of a container that is refused, an ill-formed label under

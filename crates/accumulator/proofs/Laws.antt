@@ -7,7 +7,7 @@ use native.Mathlib.Omega.{arith}
 use lib.IntN.{ℤ, pos}
 use lib.ListN.{length}
 use borrow.Author.Tests.{lt-ltb}
-use Rattle.accumulator.specs.promises.Accumulators.{oneMore, single, withValue, withValues, valueOf}
+use Rattle.accumulator.specs.promises.Accumulators.{oneMore, single, withValue, withValues, aggregateOf}
 use Rattle.accumulator.specs.declared.Accumulator.{Accumulator}
 use Rattle.plan.specs.Group.{foldedFrom, aggregateValue}
 use Rattle.plan.specs.declared.Aggregate.{Aggregate}
@@ -60,7 +60,7 @@ module _ (v : ℤ) (vs : List ℤ) (few : length (v ∷ vs) ≤ 256) where
       go true e = ap f (total-from (single v) vs ∙ accumulated-all (v ∷ vs) e few)
       go false e = refl
 
-  pub value-is : (aggregate : Aggregate) → valueOf aggregate (withValues (single v) vs) ≡ aggregateValue aggregate (v ∷ vs)
+  pub value-is : (aggregate : Aggregate) → aggregateOf aggregate (withValues (single v) vs) ≡ aggregateValue aggregate (v ∷ vs)
   value-is Count = ap pos as-many
   value-is Sum = rw exact-is (total-is settled)
   value-is Min = least-from (single v) vs

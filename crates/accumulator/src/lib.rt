@@ -54,7 +54,7 @@ fn one_more(rows: u32) -> u32
 
 // The aggregate of the values.
 pub fn value_of(a: Accumulator, aggregate: Aggregate) -> i64
-    ensures { λ r. ⌜ r ≡ spec.valueOf aggregate a ⌝ }
+    ensures { λ r. ⌜ r ≡ spec.aggregateOf aggregate a ⌝ }
 {
     match aggregate {
         Aggregate::Count => a.rows as i64,

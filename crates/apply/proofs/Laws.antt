@@ -6,18 +6,17 @@ use mathlib.Core.List.{List}
 use Rattle.apply.specs.promises.Fits.{applyFits}
 use Rattle.cells.specs.promises.Labelled.{Formed, LabelledRow, Labelled}
 use Rattle.cells.specs.promises.Work.{Work}
-use Rattle.kinds.specs.promises.Operations.{operationFits}
+use Rattle.operations.specs.promises.Operations.{operationFits}
 use Rattle.memory.specs.declared.Stack.{Stack}
 use Rattle.memory.specs.promises.Stack.{stackIn}
 use Rattle.memory.specs.promises.Steps.{fitsIn}
 use Rattle.plan.specs.Apply.{appliedRow, applied}
-use Rattle.plan.specs.Numbers.{transformCode, digitsOf}
-use Rattle.plan.specs.Sense.{Each}
-use Rattle.plan.specs.Table.{Row, Table, cellAt}
+use Rattle.plan.specs.Numbers.{transformCode, digitsTaken}
+use Rattle.plan.specs.Table.{Row, Table, cellAt, Each}
 use Rattle.plan.specs.declared.Step.the-variants.{Apply}
 use Rattle.plan.specs.declared.Transform.{Transform}
 use Rattle.cells.proofs.LabelledTables.{cell-formed}
-use Rattle.label.proofs.Laws.{after-T-well-formed}
+use Rattle.label_laws.proofs.Laws.{after-T-well-formed}
 use Rattle.memory.proofs.TopLabels.{top-formed}
 use Rattle.plan.proofs.SenseShape.{each-append, each-map}
 
@@ -30,7 +29,7 @@ apply-fits column transform tables w stack t o e = rw (t, o, top-formed column w
 
 applied-row : (column : ℕ) (transform : Transform) (row : Row) → LabelledRow row → LabelledRow (appliedRow column transform row)
 applied-row column transform row e =
-    each-append Formed (row .cells) _ e (after-T-well-formed (cellAt column row .label) (transformCode transform) (digitsOf transform) (cell-formed column row e), tt)
+    each-append Formed (row .cells) _ e (after-T-well-formed (cellAt column row .label) (transformCode transform) (digitsTaken transform) (cell-formed column row e), tt)
 
 -- the labels of the table made are well-formed if those of the table are
 pub applied-labelled : (column : ℕ) (transform : Transform) (table : Table) → Labelled table → Labelled (applied column transform table)

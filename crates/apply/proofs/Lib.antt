@@ -3,6 +3,5 @@ mod Discharged
 mod Grids
 mod MakeLoop
 mod Meaning
-mod Operands
 mod RowMade
 pub mod Laws

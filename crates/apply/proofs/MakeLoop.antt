@@ -9,16 +9,15 @@ use native.Mathlib.Omega.{arith}
 use lib.IntN.{pos}
 use lib.ListN.{length, getD, take, drop, length-append, length-drop, length-map}
 use Rattle.cells.specs.promises.Labelled.{columnFormed}
-use Rattle.apply.specs.promises.Making.{rowAt, rowsMade}
-use Rattle.label.specs.WellFormed.{wellFormed}
-use Rattle.cells.specs.promises.Cells.{flat, Wide}
+use Rattle.apply.specs.promises.Making.{rowsMade}
+use Rattle.label_words.specs.WellFormed.{wellFormed}
+use Rattle.cells.specs.promises.Cells.{Wide, rowFrom}
 use Rattle.cells.specs.promises.Work.{Work, cellsIn, room, Kept}
 use Rattle.cells.specs.promises.Written.{Written, CellsWritten, Put}
 use Rattle.memory.specs.declared.LiveTable.{LiveTable}
 use Rattle.memory.specs.promises.Stack.{lastSlot, rowsIn, labelsIn, Inside, RowsAt}
 use Rattle.plan.specs.Apply.{appliedRow}
-use Rattle.plan.specs.Sense.{Each}
-use Rattle.plan.specs.Table.{Cell, Row, blank, rowsOf}
+use Rattle.plan.specs.Table.{Each, Cell, Row, blank, rowsOf, flat}
 use Rattle.plan.specs.declared.Transform.{Transform}
 use Rattle.apply.proofs.Grids.{word-fits}
 use Rattle.cells.proofs.CellLaws.{movedIn, cells-get, kept-none, kept-then}
@@ -97,7 +96,7 @@ module _ {column : ℕ} {transform : Transform} {top : LiveTable} {w₀ : Work} 
         ∙ cells-get w (from + column) (pos 0) (omega (arith, places .4)) (omega (arith, places .5))) in
         ap wellFormed (sym same) ∙ word-fits (top .rows) (top .columns) (w₀ .labels) row from h column k (top .at) e (s .from-is)
 
-    pub row-again : {after : Work} → Put to (appliedRow column transform (rowAt w (top .columns) from) .cells) w after → Making column transform top w₀ after (from + (top .columns)) (to + ((top .columns) + 1)) (row + 1)
+    pub row-again : {after : Work} → Put to (appliedRow column transform (rowFrom (top .columns) (cellsIn w) from) .cells) w after → Making column transform top w₀ after (from + (top .columns)) (to + ((top .columns) + 1)) (row + 1)
     row-again {after} one =
         let cells : take (top .columns) (drop from (cellsIn w)) ≡ (hereOf top w₀ row) .cells
         = sym (part-of-front from (top .columns) lastSlot (cellsIn w) (places .0) (omega (arith, written-length))) ∙ ap (λ (l : List Cell). take (top .columns) (drop from l)) (below-written (s .written))

@@ -1,34 +1,38 @@
 -- APPLY in work memory and its meaning. Assumes nothing.
 use Prim.Native.Nat.{ℕ, _+_, _≤_, _<_}
 use mathlib.Core.Path.{_≡_, sym, ap, _∙_}
-use mathlib.Core.Bool.{Bool, true, false, _&&_, and-eq-true-iff}
-use mathlib.Core.List.{List, map}
-use native.Mathlib.Omega.{arith}
+use mathlib.Core.Bool.{Bool, true, false, cond, _&&_, and-eq-true-iff}
+use mathlib.Core.List.{List, [], _∷_, map}
 use lib.Dec.{leb, ltb}
 use lib.ListN.{length, getD, drop}
 use borrow.Author.Tests.{leb-true, ltb-true, lt-ltb}
-use Rattle.apply.specs.promises.Fits.{operandsFit, applyFits}
+use Rattle.apply.specs.promises.Fits.{applyFits}
 use Rattle.apply.specs.promises.Making.{rowsMade}
-use Rattle.cells.specs.promises.Labelled.{columnFormed, columnFormedAt}
-use Rattle.cells.specs.promises.Search.{says, tableWithin}
+use Rattle.apply_refusal.specs.promises.Refusals.{operandFormed, applySays}
+use Rattle.cells.specs.promises.Labelled.{columnFormed}
+use Rattle.cells.specs.promises.Search.{says, unfit}
 use Rattle.cells.specs.promises.Work.{Work, cellsIn}
-use Rattle.kinds.specs.promises.Operations.{operationFits}
+use Rattle.operations.specs.promises.Operations.{operationFits}
 use Rattle.memory.specs.declared.LiveTable.{LiveTable}
-use Rattle.memory.specs.declared.Refusal.{Refusal}
 use Rattle.memory.specs.declared.Stack.{Stack}
-use Rattle.memory.specs.declared.StepAnswer.the-variants.{Made, Refused}
-use Rattle.memory.specs.promises.Stack.{Ready, stackIn, topFormed, widthsTo, withTable, liveTable, labelsIn, Inside, RowsAt}
-use Rattle.memory.specs.promises.Steps.{refusalSays, verdict, fits, fitsIn, DoneWhere}
-use Rattle.plan.specs.Apply.{checkApply, applied, appliedRow}
+use Rattle.memory.specs.declared.StepAnswer.{StepAnswer}
+use Rattle.memory.specs.declared.StepAnswer.the-variants.{Made}
+use Rattle.memory.specs.promises.Stack.{Ready, stackIn, widthsTo, withTable, liveTable, labelsIn, Inside, RowsAt}
+use Rattle.memory.specs.promises.Steps.{stepSays, verdict, fits, fitsIn, DoneWhere}
+use Rattle.plan.specs.Apply.{checkApply, applied}
 use Rattle.plan.specs.Steps.{check, make, tooMany}
-use Rattle.plan.specs.Table.{Table, grid, top, rowsOf}
+use Rattle.plan.specs.Table.{Table, grid, top}
 use Rattle.plan.specs.Verdict.{fine}
-use Rattle.plan.specs.Widths.{enoughTables, transformFits, columnsExist, madeColumns}
+use Rattle.plan.specs.Widths.{enoughTables, transformColumnExists, columnsExist, madeColumns}
 use Rattle.plan.specs.declared.Step.{Step}
 use Rattle.plan.specs.declared.Step.the-variants.{Apply}
 use Rattle.plan.specs.declared.Transform.{Transform}
 use Rattle.apply.proofs.MakeLoop.{applied-count}
-use Rattle.memory.proofs.Finish.{unchanged-done, rows-done, says-is, or-nothing}
+use Rattle.memory.proofs.Finish.{answered-done, rows-done, fine-parts, or-nothing}
+use Rattle.memory.proofs.FormedTables.{formed-table}
+use Rattle.memory.proofs.StepAnswer.{the-type}
+use denote.Enum.Declared.{tagOf}
+use types.Run.{OneOf}
 use Rattle.memory.proofs.LiveTables.{fits-parts, Stands, stands, inside, at-is, table-within, grid-is, stack-top, top-width}
 
 -- what an APPLY that fits finds
@@ -37,7 +41,7 @@ pub record ApplyFits (column : ℕ) (transform : Transform) (values labels : ℕ
   pub here : Stands stack 0 table
   pub inside-is : Inside table values labels
   pub below : column < table .columns
-  pub operand-below : transformFits transform (table .columns) ≡ true
+  pub operand-below : transformColumnExists transform (table .columns) ≡ true
   pub width-is : width ≡ table .columns + 1
   pub narrow : table .columns + 1 ≤ 8
 
@@ -53,7 +57,7 @@ module _ (column : ℕ) (transform : Transform) where
       let parts = fits-parts step tables values labels stack t in
       let here = stands stack 0 table (parts .0 .depth) (leb-true 1 (stack .depth) (parts .1)) e in
       let placed = and-eq-true-iff (columnsExist step tables widths) (leb (madeColumns step tables widths) 8) .0 (parts .2) in
-      let exist = and-eq-true-iff (ltb column (getD widths 0 0)) (transformFits transform (getD widths 0 0)) .0 (placed .0) in
+      let exist = and-eq-true-iff (ltb column (getD widths 0 0)) (transformColumnExists transform (getD widths 0 0)) .0 (placed .0) in
       record {
         is-ready = parts .0;
         here = here;
@@ -66,15 +70,11 @@ module _ (column : ℕ) (transform : Transform) where
 
   module _ (tables : List Table) (w : Work) (stack : Stack) {table : LiveTable} {width : ℕ} (t : fitsIn step tables w stack ≡ true)
       (f : ApplyFits column transform (length (w .values)) (length (w .labels)) stack table width) where
-    -- the labels of the column, as the code tests them
-    pub formed-is : columnFormedAt (w .labels) (table .at) (table .rows) (table .columns) column ≡ topFormed column w stack
-    formed-is =
-        rw (table-within (f .inside-is), lt-ltb column (table .columns) (f .below))
-        (sym (ap (λ (s : List Table). columnFormed column (grid (top s))) (stack-top w (f .here)) ∙ ap (columnFormed column) (grid-is w (f .inside-is))))
-
-    -- all that is asked
-    pub fits-is : applyFits column transform tables w stack ≡ (operationFits transform && columnFormedAt (w .labels) (table .at) (table .rows) (table .columns) column)
-    fits-is = rw (t, formed-is)
+    -- all that is asked, as the code tests it
+    fits-is : applyFits column transform tables w stack ≡ operandFormed (w .labels) table column transform
+    fits-is =
+        rw (t, table-within (f .inside-is), lt-ltb column (table .columns) (f .below))
+        (ap (λ (b : Bool). operationFits transform && b) (ap (λ (s : List Table). columnFormed column (grid (top s))) (stack-top w (f .here)) ∙ ap (columnFormed column) (grid-is w (f .inside-is))))
 
     verdict-is : verdict step tables (stackIn w stack) ≡ checkApply column transform (labelsIn (w .labels) table)
     unfolding check tooMany
@@ -84,24 +84,26 @@ module _ (column : ℕ) (transform : Transform) where
     unfolding make applied
     made-is = ap (make step tables) (stack-top w (f .here))
 
-    module _ {fit : Bool} (u : fit ≡ true) where
-      pub refused-apply : (refusal : Refusal) → says (refusalSays refusal) ≡ says (checkApply column transform (labelsIn (w .labels) table))
-          → DoneWhere fit step tables w stack (record { answer = Refused refusal; stack = stack }) w
-      refused-apply refusal e = unchanged-done step tables w stack u refusal (verdict-is ∙ sym (says-is e))
+    -- the labels refuse it, or are none
+    pub refused-apply : (answer : StepAnswer) → OneOf (1 ∷ 2 ∷ []) (tagOf the-type answer) → stepSays answer ≡ applySays (w .labels) table column transform
+        → DoneWhere (applyFits column transform tables w stack) step tables w stack (record { answer = answer; stack = stack }) w
+    refused-apply answer k e = answered-done step tables w stack answer k verdict-is (e ∙ ap (λ (b : Bool). cond b (says (checkApply column transform (labelsIn (w .labels) table))) unfit) (sym fits-is))
 
-      pub made-apply : {after : Work} → says fine ≡ says (checkApply column transform (labelsIn (w .labels) table))
-          → RowsAt (table .at) (table .columns + 1) (table .rows) (rowsMade table column transform w) w after
-          → DoneWhere fit step tables w stack (record { answer = Made; stack = withTable stack (table .slot) width (table .rows) }) after
-      made-apply {after} e rows =
-          rw (f .width-is) (rows-done step tables w stack u (table .slot) (table .columns + 1) (table .rows) (rowsMade table column transform w) after (f .is-ready)
-          (verdict-is ∙ sym (says-is e)) (f .here .low) (f .here .depth-is) made-is (f .narrow) (f .inside-is .few-rows)
+    module _ (e : says fine ≡ applySays (w .labels) table column transform) where
+      -- the operation exists, and the labels in the column are well-formed
+      pub operand-formed : (operationFits transform ≡ true) × (columnFormed column (labelsIn (w .labels) table) ≡ true)
+      operand-formed =
+          let both = and-eq-true-iff (operationFits transform) _ .0 (fine-parts _ e .0) in
+          (both .0, formed-table (w .labels) table column (both .1) .formed)
+
+      pub made-apply : {after : Work} → RowsAt (table .at) (table .columns + 1) (table .rows) (rowsMade table column transform w) w after
+          → DoneWhere (applyFits column transform tables w stack) step tables w stack (record { answer = Made; stack = withTable stack (table .slot) width (table .rows) }) after
+      made-apply {after} rows =
+          let p = fine-parts _ e in
+          rw (f .width-is) (rows-done step tables w stack (fits-is ∙ p .0) (table .slot) (table .columns + 1) (table .rows) (rowsMade table column transform w) after (f .is-ready)
+          (verdict-is ∙ p .1) (f .here .low) (f .here .depth-is) made-is (f .narrow) (f .inside-is .few-rows)
           (sym (applied-count column transform (table .columns) (table .rows) (drop (table .at) (cellsIn w)))) (at-is (f .here)) rows)
 
 -- arguments that do not fit APPLY
 pub misfit-first : (column : ℕ) (transform : Transform) (tables : List Table) (w : Work) (stack : Stack) → fitsIn (Apply column transform) tables w stack ≡ false → applyFits column transform tables w stack ≡ false
 misfit-first column transform tables w stack e = rw e
-
--- labels that were tested
-pub formed-parts : (labels : List ℕ) (table : LiveTable) (column : ℕ) → columnFormedAt labels (table .at) (table .rows) (table .columns) column ≡ true → columnFormed column (labelsIn labels table) ≡ true
-formed-parts labels table column e =
-    and-eq-true-iff (tableWithin (table .at) (table .rows) (table .columns) (length labels) && ltb column (table .columns)) (columnFormed column (labelsIn labels table)) .0 e .1

@@ -1,35 +1,31 @@
 -- The row that APPLY makes of a row in memory. Assumes nothing.
 use Prim.Native.Nat.{ℕ, _+_, _≤_, _<_}
-use mathlib.Core.Path.{_≡_, refl, sym, ap, ap₂, _∙_}
+use mathlib.Core.Path.{_≡_, sym, ap, ap₂, _∙_}
 use mathlib.Core.Bool.{true}
-use mathlib.Core.List.{List}
 use native.Mathlib.Omega.{arith}
 use lib.IntN.{ℤ, pos}
 use lib.ListN.{length, getD, take, drop, set, length-drop}
 use lib.Seq.{length-take-le, getD-take, getD-drop}
-use borrow.Author.Tests.{ltb-true}
-use Rattle.apply.specs.promises.Making.{operandAt, valueAt, rowAt}
-use Rattle.label.specs.Discharge.{afterT}
-use Rattle.cells.specs.promises.Cells.{moved}
+use Rattle.apply.specs.promises.Making.{valueAt}
+use Rattle.label_discharge.specs.Discharge.{afterT}
+use Rattle.cells.specs.promises.Cells.{moved, rowFrom}
 use Rattle.cells.specs.promises.Work.{Work, work, cellsIn, room}
 use Rattle.cells.specs.promises.Written.{Put}
 use Rattle.plan.specs.Apply.{transformValue, newCell, appliedRow}
-use Rattle.plan.specs.Numbers.{transformCode, digitsOf}
-use Rattle.plan.specs.Operands.{operandValue}
+use Rattle.plan.specs.Numbers.{transformCode, digitsTaken}
 use Rattle.plan.specs.Table.{Cell, Row, blank, cellAt}
-use Rattle.plan.specs.Widths.{operandFits, transformFits}
-use Rattle.plan.specs.declared.Operand.{Operand}
-use Rattle.plan.specs.declared.Operand.the-variants.{Constant, Column}
+use Rattle.plan.specs.Widths.{transformColumnExists}
 use Rattle.plan.specs.declared.Transform.{Transform}
 use Rattle.plan.specs.declared.Transform.the-variants.{Add, Sub, Cut, Band}
 use Rattle.value.specs.Arithmetic.{plus, minus, cut, band}
 use Rattle.cells.proofs.CellLaws.{cell, movedIn, cells-get, cells-length, cells-set, kept-none, kept-set, kept-moved, written-up}
 use Rattle.cells.proofs.Written.{up, one-written}
+use Rattle.operand.proofs.Laws.{operand-of}
 
 module _ (w : Work) (from columns column : ℕ) (transform : Transform) (p : from + columns ≤ length (w .values)) (q : from + columns ≤ length (w .labels))
-    (k : column < columns) (f : transformFits transform columns ≡ true) where
+    (k : column < columns) (f : transformColumnExists transform columns ≡ true) where
   row : Row
-  row = rowAt w columns from
+  row = rowFrom columns (cellsIn w) from
 
   cell-in : (i : ℕ) → i < columns → cellAt i row ≡ record { value = getD (w .values) (from + i) (pos 0); label = getD (w .labels) (from + i) 0 }
   unfolding row
@@ -40,25 +36,21 @@ module _ (w : Work) (from columns column : ℕ) (transform : Transform) (p : fro
   value-in : (i : ℕ) → i < columns → cellAt i row .value ≡ getD (w .values) (from + i) (pos 0)
   value-in i h = ap (λ (cell : Cell). cell .value) (cell-in i h)
 
-  second-in : (o : Operand) → operandFits o columns ≡ true → operandValue o row ≡ operandAt (w .values) from o
-  second-in (Constant value) f = refl
-  second-in (Column other) f = value-in other (ltb-true other columns f)
-
-  value-made : (t : Transform) → transformFits t columns ≡ true → transformValue t (cellAt column row .value) row ≡ valueAt (w .values) from column t
-  value-made (Add operand) f = ap₂ plus (value-in column k) (second-in operand f)
-  value-made (Sub operand) f = ap₂ minus (value-in column k) (second-in operand f)
+  value-made : (t : Transform) → transformColumnExists t columns ≡ true → transformValue t (cellAt column row .value) row ≡ valueAt (w .values) from column t
+  value-made (Add operand) f = ap₂ plus (value-in column k) (operand-of row (w .values) from columns value-in operand f)
+  value-made (Sub operand) f = ap₂ minus (value-in column k) (operand-of row (w .values) from columns value-in operand f)
   value-made (Cut digits) f = ap (cut digits) (value-in column k)
   value-made (Band width) f = ap (band width) (value-in column k)
 
-  cell-made : newCell transform (cellAt column row) row ≡ record { value = valueAt (w .values) from column transform; label = afterT (getD (w .labels) (from + column) 0) (transformCode transform) (digitsOf transform) }
+  cell-made : newCell transform (cellAt column row) row ≡ record { value = valueAt (w .values) from column transform; label = afterT (getD (w .labels) (from + column) 0) (transformCode transform) (digitsTaken transform) }
   cell-made =
       let label-in : cellAt column row .label ≡ getD (w .labels) (from + column) 0 = ap (λ (cell : Cell). cell .label) (cell-in column k) in
-      λ i. record { value = value-made transform f i; label = afterT (label-in i) (transformCode transform) (digitsOf transform) }
+      λ i. record { value = value-made transform f i; label = afterT (label-in i) (transformCode transform) (digitsTaken transform) }
 
   -- the row's cells are copied, and the new cell is stored behind them
   pub row-made : (to : ℕ) (value : ℤ) (label : ℕ) → from + columns ≤ to → to + columns < room → room ≤ length (w .values) → room ≤ length (w .labels)
-      → value ≡ valueAt (w .values) from column transform → label ≡ afterT (getD (w .labels) (from + column) 0) (transformCode transform) (digitsOf transform)
-      → Put to (appliedRow column transform (rowAt w columns from) .cells) w
+      → value ≡ valueAt (w .values) from column transform → label ≡ afterT (getD (w .labels) (from + column) 0) (transformCode transform) (digitsTaken transform)
+      → Put to (appliedRow column transform (rowFrom columns (cellsIn w) from) .cells) w
       (work (set (moved from to columns (w .values)) (to + columns) value) (set (moved from to columns (w .labels)) (to + columns) label))
   unfolding row
   row-made to value label g h vr lr ev el =

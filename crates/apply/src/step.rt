@@ -6,13 +6,12 @@ ghost use Rattle.plan.specs.Table.{Table};
 ghost use Rattle.plan.specs.declared.Step.the-variants.{Apply};
 ghost use Rattle.apply.specs.promises.Fits.{applyFits};
 use crate::making::make_table;
-use crate::refusing::refusal;
-use kinds::Width;
 use memory::Stack;
 use memory::StepAnswer;
 use memory::Stepped;
 use plan::Step;
 use plan::Transform;
+use widths::Width;
 
 // Appends to the top table a column of what the transform makes of one of its columns. Labels that are not well-formed, or an
 // operation that does not exist, do not fit.
@@ -23,7 +22,9 @@ pub fn apply(
     column: usize,
     transform: Transform,
 ) -> Stepped
-    ensures { λ r. ⌜ ((tables : List Table) → DoneWhere (applyFits column transform tables (work (now (values .entry)) (now (labels .entry))) stack) (Apply column transform) tables (work (now (values .entry)) (now (labels .entry))) stack r (work (now (values .exit)) (now (labels .exit)))) ⌝ }
+    ensures { λ r. ⌜ ((tables : List Table) → DoneWhere
+        (applyFits column transform tables (work (now (values .entry)) (now (labels .entry))) stack) (Apply column transform)
+        tables (work (now (values .entry)) (now (labels .entry))) stack r (work (now (values .exit)) (now (labels .exit)))) ⌝ }
 {
     let step = Step::Apply { column, transform };
     let Width::Columns(columns) = memory::fit(values.len(), labels.len(), stack, step) else {
@@ -33,28 +34,16 @@ pub fn apply(
         };
     };
     let top = memory::live_table(stack, 0);
-    let formed = cells::column_formed(labels, top.at, top.rows, top.columns, column);
-    if !(kinds::operation_fits(transform) & formed) {
+    let answer = apply_refusal::refusal(labels, top, column, transform);
+    let StepAnswer::Made = answer else {
         return Stepped {
-            answer: StepAnswer::DoesNotFit,
+            answer: answer,
             stack: stack,
         };
-    }
-    match refusal(labels, top, column, transform) {
-        StepAnswer::Refused(refusal) => Stepped {
-            answer: StepAnswer::Refused(refusal),
-            stack: stack,
-        },
-        StepAnswer::DoesNotFit => Stepped {
-            answer: StepAnswer::DoesNotFit,
-            stack: stack,
-        },
-        StepAnswer::Made => {
-            make_table(values, labels, top, column, transform);
-            Stepped {
-                answer: StepAnswer::Made,
-                stack: memory::with_table(stack, top.slot, columns, top.rows),
-            }
-        }
+    };
+    make_table(values, labels, top, column, transform);
+    Stepped {
+        answer: StepAnswer::Made,
+        stack: memory::with_table(stack, top.slot, columns, top.rows),
     }
 }

@@ -8,7 +8,7 @@ use native.Mathlib.Numerals.{add-one}
 use native.Mathlib.Omega.{arith}
 use lib.ListN.{getD, take, drop}
 use lib.Seq.{drop-drop, getD-take, getD-drop}
-use Rattle.label.specs.WellFormed.{wellFormed}
+use Rattle.label_words.specs.WellFormed.{wellFormed}
 use Rattle.cells.specs.promises.Cells.{gridOf}
 use Rattle.cells.specs.promises.Labelled.{columnFormed}
 use Rattle.plan.specs.Verdict.{Verdict, orElse, firstRow}

@@ -8,9 +8,8 @@ use Rattle.plan.specs.Masks.{inMask}
 use Rattle.cells.specs.promises.Labelled.{columnFormed, Formed, LabelledRow, Labelled}
 use Rattle.plan.specs.Filter.{passing}
 use Rattle.plan.specs.Keep.{keptCells}
-use Rattle.plan.specs.Sense.{Each}
-use Rattle.plan.specs.Table.{Cell, Row, Table, blank, cellAt, labelsOf, top}
-use Rattle.label.proofs.Laws.{zero-well-formed}
+use Rattle.plan.specs.Table.{Cell, Row, Table, blank, cellAt, labelsOf, top, Each}
+use Rattle.label_laws.proofs.Laws.{zero-well-formed}
 use Rattle.plan.proofs.SenseShape.{each-append, each-get, each-cond}
 
 -- a cell's label, among the labels of its row

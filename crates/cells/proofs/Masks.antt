@@ -6,7 +6,7 @@ use lib.Bits.{bitOr}
 use lib.Dec.{T, eqb}
 use borrow.Author.Tests.{eq-eqb, ne-eqb}
 use Rattle.plan.specs.Masks.{inMask}
-use Rattle.label.proofs.Below.{allBelow, below}
+use Rattle.label_words.proofs.Below.{allBelow, below}
 
 beq-eq : (a b : Bool) → T (Bool·beq a b) → a ≡ b
 beq-eq true true t = refl

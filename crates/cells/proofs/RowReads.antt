@@ -6,10 +6,9 @@ use native.Mathlib.Omega.{arith}
 use lib.IntN.{ℤ, pos}
 use lib.ListN.{length, getD, take, drop, length-append}
 use lib.Seq.{take-add, drop-drop, getD-drop}
-use Rattle.cells.specs.promises.Cells.{flat, Wide}
+use Rattle.cells.specs.promises.Cells.{Wide}
 use Rattle.cells.specs.promises.Work.{Work, cellsIn}
-use Rattle.plan.specs.Sense.{Each}
-use Rattle.plan.specs.Table.{Cell, Row, blank, cellAt, rowsOf}
+use Rattle.plan.specs.Table.{Cell, Row, blank, cellAt, rowsOf, flat, Each}
 use Rattle.cells.proofs.CellLaws.{cells-get}
 use Rattle.cells.proofs.Rows.{cell-at}
 

@@ -7,10 +7,9 @@ use native.Mathlib.Omega.{arith}
 use lib.IntN.{ℤ}
 use lib.ListN.{length, getD, take, drop, length-drop}
 use lib.Seq.{length-take-le, take-at, drop-at, take-add, drop-drop, getD-take, getD-drop, take-take}
-use Rattle.cells.specs.promises.Cells.{cellsOf, flat, gridOf, Wide}
+use Rattle.cells.specs.promises.Cells.{cellsOf, gridOf, Wide}
 use Rattle.cells.specs.promises.Work.{work}
-use Rattle.plan.specs.Sense.{Each}
-use Rattle.plan.specs.Table.{Cell, Row, blank, labelsOf, rowsOf}
+use Rattle.plan.specs.Table.{Cell, Row, blank, labelsOf, rowsOf, flat, Each}
 use Rattle.cells.proofs.CellLaws.{cells-drop, labels-front}
 
 -- rows written one after the other are read back

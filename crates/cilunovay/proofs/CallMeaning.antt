@@ -4,9 +4,11 @@ use mathlib.Core.Path.{_≡_, refl, sym, ap, _∙_}
 use mathlib.Core.List.{List, [], _∷_}
 use native.Mathlib.Omega.{arith}
 use lib.ListN.{length, getD, set}
-use Rattle.container.specs.Check.{Verdict, accepted, refused, checkInput}
+use Rattle.container.specs.Check.{checkInput}
+use Rattle.input.specs.Verdict.{InputVerdict, accepted, rejected}
 use Rattle.demands.specs.Answers.{Told, released, refusedInput, refusedState}
 use Rattle.demands.specs.Calls.{numbersOf, runCalled, runTold, runCall, checkNumbersOf, checkCalled, checkTold, checkCall}
+use Rattle.demands.specs.Given.{Given}
 use Rattle.demands.specs.Lent.{Lent}
 use Rattle.demands.specs.Monitor.{Run, ended, written, monitor}
 use Rattle.demands.proofs.CallProof.{long-call, call-short-keeps-all}
@@ -37,32 +39,32 @@ told-stored (released rows columns) = four-stored 0 rows columns 0
 told-stored (refusedInput number place) = four-stored number place 0 0
 told-stored (refusedState number step row column) = four-stored number step row column
 
-verdict-stored : (verdict : Verdict) (old : List ℕ) → 2 ≤ length old → twoStored (checkNumbersOf verdict) old ≡ written (checkNumbersOf verdict) old
+verdict-stored : (verdict : InputVerdict) (old : List ℕ) → 2 ≤ length old → twoStored (checkNumbersOf verdict) old ≡ written (checkNumbersOf verdict) old
 verdict-stored accepted = two-stored 0 0
-verdict-stored (refused number place) = two-stored number place
+verdict-stored (rejected number place) = two-stored number place
 
 -- ---- the calls
 
-module _ (bytes : List ℕ) (lent : Lent) (answer : List ℕ) where
-  pub run-short : length answer < 4 → runCalled 1 lent answer ≡ runCall bytes lent answer
-  run-short h = sym (call-short-keeps-all bytes lent answer h)
+module _ (given : Given) (lent : Lent) (answer : List ℕ) where
+  pub run-short : length answer < 4 → runCalled 1 lent answer ≡ runCall given lent answer
+  run-short h = sym (call-short-keeps-all given lent answer h)
 
-  pub run-long : {told : Told} {left : Lent} {numbers : List ℕ} → 4 ≤ length answer → ended told left ≡ monitor bytes lent → numbers ≡ numbersOf told
-      → runCalled (getD numbers 0 0) left (fourStored numbers answer) ≡ runCall bytes lent answer
+  pub run-long : {told : Told} {left : Lent} {numbers : List ℕ} → 4 ≤ length answer → ended told left ≡ monitor given lent → numbers ≡ numbersOf told
+      → runCalled (getD numbers 0 0) left (fourStored numbers answer) ≡ runCall given lent answer
   run-long {told} {left} {numbers} h e n =
       ap (λ (l : List ℕ). runCalled (getD l 0 0) left (fourStored l answer)) n
       ∙ ap (λ (l : List ℕ). runCalled (getD (numbersOf told) 0 0) left l) (told-stored told answer h)
       ∙ ap (λ (run : Run). runTold run answer) e
-      ∙ sym (long-call bytes lent answer h)
+      ∙ sym (long-call given lent answer h)
 
 module _ (bytes answer : List ℕ) where
   pub check-short : length answer < 2 → checkCalled 1 answer ≡ checkCall bytes answer
   check-short h = sym (check-short-keeps-all bytes answer h)
 
-  pub check-long : {verdict : Verdict} {numbers : List ℕ} → 2 ≤ length answer → verdict ≡ checkInput bytes → numbers ≡ checkNumbersOf verdict
+  pub check-long : {verdict : InputVerdict} {numbers : List ℕ} → 2 ≤ length answer → verdict ≡ checkInput bytes → numbers ≡ checkNumbersOf verdict
       → checkCalled (getD numbers 0 0) (twoStored numbers answer) ≡ checkCall bytes answer
   check-long {verdict} {numbers} h e n =
       ap (λ (l : List ℕ). checkCalled (getD l 0 0) (twoStored l answer)) n
       ∙ ap (λ (l : List ℕ). checkCalled (getD (checkNumbersOf verdict) 0 0) l) (verdict-stored verdict answer h)
-      ∙ ap (λ (v : Verdict). checkTold (checkNumbersOf v) answer) e
+      ∙ ap (λ (v : InputVerdict). checkTold (checkNumbersOf v) answer) e
       ∙ sym (long-check bytes answer h)

@@ -6,37 +6,34 @@ use native.Mathlib.Nat.{add-zero, add-suc, suc-add}
 use native.Mathlib.Numerals.{add-one}
 use native.Mathlib.Omega.{arith}
 use lib.ListN.{length, take}
-use Rattle.container.specs.Check.{accepted, said, checkTable, checkTables, tableWidths}
-use Rattle.container.specs.Layout.{offsetOf, partOf}
-use Rattle.container.specs.TablePart.{columnsOf}
-use Rattle.container.specs.declared.Check.{Check}
-use Rattle.container.specs.declared.Check.the-variants as check
-use Rattle.records.specs.Verdict.{orElse}
-use Rattle.container.proofs.Answers.{Refuses, stands}
-use Rattle.records.proofs.Counts.{one-left}
+use Rattle.container.specs.Check.{accepted, inputSays, checkTables, tableWidths}
+use Rattle.input.specs.Verdict.{andThen}
+use Rattle.input.specs.declared.InputCheck.{InputCheck}
+use Rattle.input.specs.declared.InputCheck.the-variants as check
+use Rattle.input.specs.declared.InputRefusal.{InputRefusal}
+use Rattle.layout.specs.Layout.{offsetOf, partOf}
+use Rattle.table_check.specs.Checks.{checkTable}
+use Rattle.table_part.specs.TablePart.{columnsOf}
+use Rattle.input.proofs.Laws.{stands, one-left}
 
 -- the tables before one are as they should be: what is left of the check
 pub record Tables (bytes : List ℕ) (count index : ℕ) : Type 0 where
-  pub first : 1 ≤ index
-  pub done : index ≤ count
   pub left : checkTables bytes 1 (count - 1) ≡ checkTables bytes index (count - index)
 
-pub begin : (bytes : List ℕ) (count : ℕ) → 1 ≤ count → Tables bytes count 1
-begin bytes count h = record { first = omega arith; done = h; left = refl }
+pub begin : (bytes : List ℕ) (count : ℕ) → Tables bytes count 1
+begin bytes count = record { left = refl }
 
 module _ {bytes : List ℕ} {count index : ℕ} (p : Tables bytes count index) where
   table-left : index < count
-      → checkTables bytes 1 (count - 1) ≡ orElse (checkTable (partOf bytes index) (offsetOf bytes index)) (checkTables bytes (suc index) (count - suc index))
+      → checkTables bytes 1 (count - 1) ≡ andThen (checkTable (partOf bytes index) (offsetOf bytes index)) (checkTables bytes (suc index) (count - suc index))
   table-left h = p .left ∙ rw (one-left index count h)
 
-  module _ (r : Check) (h : index < count) (e : said r ≡ checkTable (partOf bytes index) (offsetOf bytes index)) where
-    pub stopped : Refuses r → said r ≡ checkTables bytes 1 (count - 1)
+  module _ (r : InputCheck) (h : index < count) (e : inputSays r ≡ checkTable (partOf bytes index) (offsetOf bytes index)) where
+    pub stopped : {why : InputRefusal} → r ≡ check.Refused why → inputSays r ≡ checkTables bytes 1 (count - 1)
     stopped k = rw (table-left h, ← e) (sym (stands r (checkTables bytes (suc index) (count - suc index)) k))
 
     pub keep : r ≡ check.Accepted → Tables bytes count (index + 1)
-    keep k =
-        let i = p .first in
-        record { first = omega arith; done = omega arith; left = rw (table-left h, ← e, k, add-one index) }
+    keep k = record { left = rw (table-left h, ← e, k, add-one index) }
 
   pub finish : count ≤ index → accepted ≡ checkTables bytes 1 (count - 1)
   finish h = let z : count - index ≡ 0 = omega arith in rw (p .left, z)

@@ -1,13 +1,14 @@
 -- What an accepted container holds: its plan and its tables.
 use Prim.Native.Nat.{ℕ, zero, suc, _-_}
 use mathlib.Core.List.{List, [], _∷_}
-use Rattle.container.specs.Layout.{partCount, partOf}
-use Rattle.container.specs.TablePart.{tableOf}
+use Rattle.layout.specs.Layout.{partCount, partOf}
 use Rattle.plan.specs.Table.{Table}
 use Rattle.plan.specs.declared.Step.{Step}
-use Rattle.records.specs.PlanPart.{stepCount, fieldsAt, stepOf}
+use Rattle.plan_part.specs.PlanPart.{stepCount}
+use Rattle.records.specs.Record.{fieldsAt, stepOf}
 use Rattle.records.specs.declared.Found.{Found}
 use Rattle.records.specs.declared.Found.the-variants as found
+use Rattle.table_part.specs.TablePart.{tableOf}
 
 -- a record without a step adds none
 abbrev pub put : Found → List Step → List Step

@@ -1,7 +1,3 @@
--- The container's layout, its checks and its contents. These files are what a reader must believe.
-pub mod Layout
-pub mod TablePart
+-- The input checks, and what an accepted container holds. These files are what a reader must believe.
 pub mod Check
 pub mod Contents
-pub mod Reading
-pub mod Accepted

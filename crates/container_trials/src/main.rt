@@ -1,59 +1,61 @@
 // Runs the input checks on each container that the arguments name. Each line has the name and 'accepted' with the numbers of steps
 // and tables, or X with the refusal's number and its place.
-use container::Check;
+use input::InputCheck;
+use input::InputRefusal;
+use input::PlanRefusal;
 use libc::STDOUT_FILENO;
 
 fn main() {
-    let count = os::arg_count();
-    let mut index = 1;
-    while index < count {
+    for index in 1..os::arg_count() {
         trial(index);
-        index += 1;
     }
 }
 
-// The container that an argument names. One byte more than the limit is read, so that a longer container shows.
+// One byte more than the limit is read, so that a longer container shows.
 fn trial(index: usize) {
-    let mut name = io::buffer();
-    let length = os::arg(index, &mut name);
-    let fd = os::open_read(&name[..length]);
-    if fd < 0 {
-        os::fail(&name[..length]);
+    let mut bytes = [0u8; 65537];
+    let file = arguments::read_argument(index, &mut bytes);
+    let length = file.length;
+    if !file.opened {
         return;
     }
-    let mut bytes = [0u8; 65537];
-    let n = io::read_full(fd, &mut bytes);
-    libc::close(fd);
-    text(&name[..length]);
-    answer(&bytes[..n]);
+    answer(&bytes[..length]);
 }
 
 fn answer(bytes: &[u8]) {
     match container::check_input(bytes) {
-        Check::Accepted => accepted(bytes),
-        Check::Container => refused(11, 0),
-        Check::Directory(place) => refused(12, place),
-        Check::Table(place) => refused(13, place),
-        Check::Value(place) => refused(14, place),
-        Check::Label(place) => refused(15, place),
-        Check::Plan(place) => refused(16, place),
-        Check::Record(place) => refused(17, place),
-        Check::Tables(place) => refused(18, place),
-        Check::Columns(place) => refused(19, place),
+        InputCheck::Accepted => accepted(bytes),
+        InputCheck::Refused(refusal) => refused_input(refusal),
     }
 }
 
-fn accepted(bytes: &[u8]) {
-    text(b" accepted ");
-    decimal(records::step_count(container::part(bytes, 0)));
-    text(b" ");
-    decimal(tables(container::part_count(bytes)));
-    text(b"\n");
+fn refused_input(refusal: InputRefusal) {
+    match refusal {
+        InputRefusal::Container => refused(11, 0),
+        InputRefusal::Directory(place) => refused(12, place),
+        InputRefusal::Table(place) => refused(13, place),
+        InputRefusal::Value(place) => refused(14, place),
+        InputRefusal::Label(place) => refused(15, place),
+        InputRefusal::Plan(refusal) => refused_plan(refusal),
+    }
 }
 
-// The parts after the plan.
-fn tables(parts: usize) -> usize {
-    if parts == 0 { 0 } else { parts - 1 }
+fn refused_plan(refusal: PlanRefusal) {
+    match refusal {
+        PlanRefusal::Length(place) => refused(16, place),
+        PlanRefusal::Record(place) => refused(17, place),
+        PlanRefusal::Tables(place) => refused(18, place),
+        PlanRefusal::Columns(place) => refused(19, place),
+    }
+}
+
+// The steps, and the tables: all parts but the plan.
+fn accepted(bytes: &[u8]) {
+    text(b" accepted ");
+    decimal(plan_part::step_count(layout::part(bytes, 0)));
+    text(b" ");
+    decimal(std::num::wrapping_sub_usize(layout::part_count(bytes), 1));
+    text(b"\n");
 }
 
 fn refused(number: usize, place: usize) {

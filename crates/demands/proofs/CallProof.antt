@@ -12,9 +12,10 @@ use Rattle.demands.specs.Answers.{Told, released, refusedInput, refusedS
 use Rattle.demands.specs.CallAccuracy as accuracy
 use Rattle.demands.specs.CallMemory.{CallShortKeepsAll, Leaves, CallLeaves, RestKept, CallKeepsRest}
 use Rattle.demands.specs.Calls.{RunCall, runCalled, runTold, runCall}
+use Rattle.demands.specs.Given.{Given}
 use Rattle.demands.specs.Lent.{Lent}
 use Rattle.demands.specs.Monitor.{Run, ended, monitor}
-use Rattle.demands.specs.Secrecy.{SecrecyOfCalls}
+use Rattle.demands.specs.CallAccuracy.{SecrecyOfCalls}
 use Rattle.demands.proofs.AccuracyProof.{released-is-released, refused-is-refused, trace-is-trace, input-is-checked, release-means, refusal-means, input-refusal-means}
 use Rattle.demands.proofs.LengthsProof.{lengths-kept}
 use Rattle.demands.proofs.MemoryProof.{input-refusal-keeps-all, begun-leaves-zero}
@@ -30,28 +31,28 @@ secrecy-of-calls a b in-a in-b alike lent long answer = rw (secrecy-of-runs a b 
 
 -- ---- a call, case by case
 
-pub long-call : (bytes : List ℕ) (lent : Lent) (answer : List ℕ) → 4 ≤ length answer → runCall bytes lent answer ≡ runTold (monitor bytes lent) answer
+pub long-call : (given : Given) (lent : Lent) (answer : List ℕ) → 4 ≤ length answer → runCall given lent answer ≡ runTold (monitor given lent) answer
 unfolding runCall
-long-call bytes lent answer h = rw (le-leb 4 (length answer) h)
+long-call given lent answer h = rw (le-leb 4 (length answer) h)
 
 pub call-short-keeps-all : CallShortKeepsAll
 unfolding runCall
-call-short-keeps-all bytes lent answer h = rw (lt-leb 4 (length answer) h)
+call-short-keeps-all given lent answer h = rw (lt-leb 4 (length answer) h)
 
 -- what holds in each case holds of the call
-module _ (bytes : List ℕ) (lent : Lent) (answer : List ℕ) (P : RunCall → Type 0) where
+module _ (given : Given) (lent : Lent) (answer : List ℕ) (P : RunCall → Type 0) where
   by-call : (length answer < 4 → P (runCalled 1 lent answer))
-      → (4 ≤ length answer → (told : Told) → monitor bytes lent .answer ≡ told → P (runTold (ended told (monitor bytes lent .left)) answer))
-      → P (runCall bytes lent answer)
+      → (4 ≤ length answer → (told : Told) → monitor given lent .answer ≡ told → P (runTold (ended told (monitor given lent .left)) answer))
+      → P (runCall given lent answer)
   by-call few long = by-length (leb 4 (length answer)) refl
     where
-      by-length : (b : Bool) → leb 4 (length answer) ≡ b → P (runCall bytes lent answer)
+      by-length : (b : Bool) → leb 4 (length answer) ≡ b → P (runCall given lent answer)
       by-length true e =
           let h = leb-true 4 (length answer) e in
-          subst P (sym (long-call bytes lent answer h)) (long h (monitor bytes lent .answer) refl)
+          subst P (sym (long-call given lent answer h)) (long h (monitor given lent .answer) refl)
       by-length false e =
           let h = leb-false 4 (length answer) e in
-          subst P (sym (call-short-keeps-all bytes lent answer h)) (few h)
+          subst P (sym (call-short-keeps-all given lent answer h)) (few h)
 
 -- ---- demand 1, the slice for the answer
 
@@ -59,12 +60,12 @@ four-kept : {a b c d : ℕ} {answer : List ℕ} → 4 ≤ length answer → Rest
 four-kept {a} {b} {c} {d} {answer} h = record { first = λ _ x. refl; past = refl; same-length = over-length (a ∷ b ∷ c ∷ d ∷ []) answer h }
 
 pub call-keeps-rest : CallKeepsRest
-call-keeps-rest bytes lent answer =
-    by-call bytes lent answer (λ call. RestKept 4 answer (call .number) (call .answer))
+call-keeps-rest given lent answer =
+    by-call given lent answer (λ call. RestKept 4 answer (call .number) (call .answer))
     (λ few. record { first = λ long. absurd (omega arith); past = refl; same-length = refl }) told
   where
-    told : 4 ≤ length answer → (told : Told) → monitor bytes lent .answer ≡ told
-        → let call = runTold (ended told (monitor bytes lent .left)) answer in RestKept 4 answer (call .number) (call .answer)
+    told : 4 ≤ length answer → (told : Told) → monitor given lent .answer ≡ told
+        → let call = runTold (ended told (monitor given lent .left)) answer in RestKept 4 answer (call .number) (call .answer)
     told h (released rows columns) e = four-kept h
     told h (refusedInput number place) e = four-kept h
     told h (refusedState number step row column) e = four-kept h
@@ -72,22 +73,22 @@ call-keeps-rest bytes lent answer =
 -- ---- demand 2, from the evaluation to the call
 
 pub call-releases : accuracy.CallReleases
-call-releases bytes lent answer h b table e =
-    let r = released-is-released bytes lent b table e in
-    rw (long-call bytes lent answer h, r .0) ((refl, refl), r .1)
+call-releases given lent answer h b table e =
+    let r = released-is-released given lent b table e in
+    rw (long-call given lent answer h, r .0) ((refl, refl), r .1)
 
 pub call-refuses : accuracy.CallRefuses
-call-refuses bytes lent answer h = (
-  λ b number step row column e. rw (long-call bytes lent answer h, refused-is-refused bytes lent b number step row column e .0) (refl, refl),
-  λ e. rw (long-call bytes lent answer h, short-keeps-all bytes lent e) (refl, refl),
+call-refuses given lent answer h = (
+  λ b number step row column e. rw (long-call given lent answer h, refused-is-refused given lent b number step row column e .0) (refl, refl),
+  λ e. rw (long-call given lent answer h, short-keeps-all given lent e) (refl, refl),
 )
 
 pub call-refuses-input : accuracy.CallRefusesInput
-call-refuses-input bytes lent answer h long number place e =
-    rw (long-call bytes lent answer h, input-is-checked bytes lent long number place e) (refl, refl)
+call-refuses-input given lent answer h long number place e =
+    rw (long-call given lent answer h, input-is-checked given lent long number place e) (refl, refl)
 
 pub call-traces : accuracy.CallTraces
-call-traces bytes lent answer h b = rw (long-call bytes lent answer h) (trace-is-trace bytes lent b)
+call-traces given lent answer h b = rw (long-call given lent answer h) (trace-is-trace given lent b)
 
 -- ---- demand 1, the slices of the run
 
@@ -102,39 +103,39 @@ kept-leaves {lent} call from to e = record {
 }
 
 pub call-leaves : CallLeaves
-call-leaves bytes lent answer = by-call bytes lent answer (Leaves lent) (λ _. kept-leaves (runCalled 1 lent answer) (omega arith) (omega arith) refl) told
+call-leaves given lent answer = by-call given lent answer (Leaves lent) (λ _. kept-leaves (runCalled 1 lent answer) (omega arith) (omega arith) refl) told
   where
-    refusal : {number step row column : ℕ} → Refused bytes lent number step row column
-        → Leaves lent (runTold (ended (refusedState number step row column) (monitor bytes lent .left)) answer)
-    refusal (short s) = kept-leaves _ (omega arith) (omega arith) (ap (λ (run : Run). run .left) (short-keeps-all bytes lent s))
+    refusal : {number step row column : ℕ} → Refused given lent number step row column
+        → Leaves lent (runTold (ended (refusedState number step row column) (monitor given lent .left)) answer)
+    refusal (short s) = kept-leaves _ (omega arith) (omega arith) (ap (λ (run : Run). run .left) (short-keeps-all given lent s))
     refusal (evaluated {number} {step} {row} {column} b o from to) = record {
       all-kept = λ _ most. absurd (omega arith);
-      output-kept = λ _. refused-is-refused bytes lent b number step row column o .1;
+      output-kept = λ _. refused-is-refused given lent b number step row column o .1;
       zeroed-by-release = λ n. absurd (omega arith);
-      zeroed-by-refusal = λ _. begun-leaves-zero bytes lent b;
-      lengths = lengths-kept bytes lent;
+      zeroed-by-refusal = λ _. begun-leaves-zero given lent b;
+      lengths = lengths-kept given lent;
     }
 
-    told : 4 ≤ length answer → (told : Told) → monitor bytes lent .answer ≡ told → Leaves lent (runTold (ended told (monitor bytes lent .left)) answer)
+    told : 4 ≤ length answer → (told : Told) → monitor given lent .answer ≡ told → Leaves lent (runTold (ended told (monitor given lent .left)) answer)
     told h (released rows columns) e = record {
       all-kept = λ least _. absurd (omega arith);
       output-kept = λ n. absurd (n refl);
-      zeroed-by-release = λ _. begun-leaves-zero bytes lent (release-means bytes lent rows columns e .begun);
+      zeroed-by-release = λ _. begun-leaves-zero given lent (release-means given lent rows columns e .begun);
       zeroed-by-refusal = λ least. absurd (omega arith);
-      lengths = lengths-kept bytes lent;
+      lengths = lengths-kept given lent;
     }
     told h (refusedInput number place) e =
-        let i = input-refusal-means bytes lent number place e in
-        kept-leaves _ (omega arith) (i .to-19) (input-refusal-keeps-all bytes lent number place e)
-    told h (refusedState number step row column) e = refusal (refusal-means bytes lent number step row column e)
+        let i = input-refusal-means given lent number place e in
+        kept-leaves _ (omega arith) (i .to-19) (input-refusal-keeps-all given lent number place e)
+    told h (refusedState number step row column) e = refusal (refusal-means given lent number step row column e)
 
 -- ---- demand 2, from the numbers told to the evaluation
 
 pub call-means : accuracy.CallMeans
-call-means bytes lent answer = by-call bytes lent answer (accuracy.Called bytes lent answer) (λ few. accuracy.answer-short few refl) told
+call-means given lent answer = by-call given lent answer (accuracy.Called given lent answer) (λ few. accuracy.answer-short few refl) told
   where
-    told : 4 ≤ length answer → (told : Told) → monitor bytes lent .answer ≡ told
-        → accuracy.Called bytes lent answer (runTold (ended told (monitor bytes lent .left)) answer)
-    told h (released rows columns) e = accuracy.releases h (refl, refl) (release-means bytes lent rows columns e)
-    told h (refusedInput number place) e = accuracy.refuses-input h (refl, refl) (input-refusal-means bytes lent number place e)
-    told h (refusedState number step row column) e = accuracy.refuses h (refl, refl) (refusal-means bytes lent number step row column e)
+    told : 4 ≤ length answer → (told : Told) → monitor given lent .answer ≡ told
+        → accuracy.Called given lent answer (runTold (ended told (monitor given lent .left)) answer)
+    told h (released rows columns) e = accuracy.releases h (refl, refl) (release-means given lent rows columns e)
+    told h (refusedInput number place) e = accuracy.refuses-input h (refl, refl) (input-refusal-means given lent number place e)
+    told h (refusedState number step row column) e = accuracy.refuses h (refl, refl) (refusal-means given lent number step row column e)

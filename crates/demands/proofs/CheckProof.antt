@@ -7,7 +7,8 @@ use native.Mathlib.Omega.{arith}
 use lib.Dec.{leb}
 use lib.ListN.{length, drop}
 use borrow.Author.Tests.{leb-true, leb-false, le-leb, lt-leb}
-use Rattle.container.specs.Check.{Verdict, accepted, refused, checkInput}
+use Rattle.container.specs.Check.{checkInput}
+use Rattle.input.specs.Verdict.{InputVerdict, accepted, rejected}
 use Rattle.demands.specs.CallMemory.{RestKept}
 use Rattle.demands.specs.Calls.{CheckCall, checkCalled, checkNumbersOf, checkTold, checkCall}
 use Rattle.demands.specs.CheckDemands as demands
@@ -27,7 +28,7 @@ long-check bytes answer h = rw (le-leb 2 (length answer) h)
 -- what holds in each case holds of the call
 module _ (bytes answer : List ℕ) (P : CheckCall → Type 0) where
   by-check : (length answer < 2 → P (checkCalled 1 answer))
-      → (2 ≤ length answer → (verdict : Verdict) → checkInput bytes ≡ verdict → P (checkTold (checkNumbersOf verdict) answer)) → P (checkCall bytes answer)
+      → (2 ≤ length answer → (verdict : InputVerdict) → checkInput bytes ≡ verdict → P (checkTold (checkNumbersOf verdict) answer)) → P (checkCall bytes answer)
   by-check few long = by-length (leb 2 (length answer)) refl
     where
       by-length : (b : Bool) → leb 2 (length answer) ≡ b → P (checkCall bytes answer)
@@ -48,10 +49,10 @@ check-keeps-rest bytes answer =
     by-check bytes answer (λ call. RestKept 2 answer (call .number) (call .answer))
     (λ few. record { first = λ long. absurd (omega arith); past = refl; same-length = refl }) told
   where
-    told : 2 ≤ length answer → (verdict : Verdict) → checkInput bytes ≡ verdict
+    told : 2 ≤ length answer → (verdict : InputVerdict) → checkInput bytes ≡ verdict
         → let call = checkTold (checkNumbersOf verdict) answer in RestKept 2 answer (call .number) (call .answer)
     told h accepted e = two-kept h
-    told h (refused number place) e = two-kept h
+    told h (rejected number place) e = two-kept h
 
 -- ---- demand 2
 
@@ -64,6 +65,6 @@ check-refuses bytes answer h number place e = rw (long-check bytes answer h, e)
 pub check-means : demands.CheckMeans
 check-means bytes answer = by-check bytes answer (demands.Checked bytes answer) (λ few. demands.short few refl) told
   where
-    told : 2 ≤ length answer → (verdict : Verdict) → checkInput bytes ≡ verdict → demands.Checked bytes answer (checkTold (checkNumbersOf verdict) answer)
+    told : 2 ≤ length answer → (verdict : InputVerdict) → checkInput bytes ≡ verdict → demands.Checked bytes answer (checkTold (checkNumbersOf verdict) answer)
     told h accepted e = demands.accepts h refl e
-    told h (refused number place) e = let n = input-numbers bytes number place e in demands.refuses h refl e (n .0) (n .1)
+    told h (rejected number place) e = let n = input-numbers bytes number place e in demands.refuses h refl e (n .0) (n .1)

@@ -6,36 +6,39 @@ use mathlib.Core.List.{List, [], _∷_}
 use native.Mathlib.Omega.{arith}
 use lib.Dec.{eqb, leb, ltb}
 use lib.ListN.{length, drop}
-use Rattle.container.specs.Check.{Verdict, accepted, refused, checkContainer, checkPairs, checkDirectory, checkCells, checkTable, checkTables, tableWidths, checkInput}
-use Rattle.container.specs.Layout.{partCount, pairAt, offsetOf, lengthOf, partOf}
-use Rattle.container.specs.TablePart.{columnsOf, rowCount, headerFits, valuePlace, labelPlace, valueOf, labelOf}
-use Rattle.label.specs.WellFormed.{wellFormed}
+use Rattle.container.specs.Check.{checkTables, tableWidths, checkInput}
+use Rattle.layout_check.specs.Checks.{checkContainer, checkPairs, checkDirectory}
+use Rattle.table_check.specs.Checks.{checkCells, checkTable}
+use Rattle.input.specs.Verdict.{InputVerdict, accepted, rejected, andThen, rejectIf}
+use Rattle.layout.specs.Layout.{partCount, pairAt, offsetOf, lengthOf, partOf}
+use Rattle.table_part.specs.TablePart.{columnsOf, rowCount, headerFits, valuePlace, labelPlace, valueOf, labelOf}
+use Rattle.label_words.specs.WellFormed.{wellFormed}
 use Rattle.plan.specs.Steps.{takes}
 use Rattle.plan.specs.Widths.{enoughTables, placed, madeColumns}
 use Rattle.plan.specs.declared.Step.{Step}
-use Rattle.records.specs.PlanCheck.{checkFound, checkSteps, checkPlan}
-use Rattle.records.specs.PlanPart.{stepCount, lengthFits, fieldsAt, stepOf}
-use Rattle.records.specs.Verdict.{orElse, refuseIf}
+use Rattle.plan_check.specs.PlanCheck.{checkFound, checkSteps, checkPlan}
+use Rattle.plan_part.specs.PlanPart.{stepCount, lengthFits}
+use Rattle.records.specs.Record.{fieldsAt, stepOf}
 use Rattle.records.specs.declared.Found.{Found}
 use Rattle.records.specs.declared.Found.the-variants as found
 use Rattle.value.specs.Range.{inRange}
 
 -- a verdict whose number, if it has one, lies from 11 to 19
-abbrev Numbered : Verdict → Type 0
+abbrev Numbered : InputVerdict → Type 0
 Numbered accepted = Unit
-Numbered (refused number place) = (11 ≤ number) × (number ≤ 19)
+Numbered (rejected number place) = (11 ≤ number) × (number ≤ 19)
 
-both : (first later : Verdict) → Numbered first → Numbered later → Numbered (orElse first later)
+both : (first later : InputVerdict) → Numbered first → Numbered later → Numbered (andThen first later)
 both accepted later n m = m
-both (refused number place) later n m = n
+both (rejected number place) later n m = n
 
-only : (fact : Bool) (number place : ℕ) → 11 ≤ number → number ≤ 19 → Numbered (refuseIf fact number place)
+only : (fact : Bool) (number place : ℕ) → 11 ≤ number → number ≤ 19 → Numbered (rejectIf fact number place)
 only true number place from to = (from, to)
 only false number place from to = tt
 
 -- a test, and those after it
-next : (fact : Bool) (number place : ℕ) (later : Verdict) → 11 ≤ number → number ≤ 19 → Numbered later → Numbered (orElse (refuseIf fact number place) later)
-next fact number place later from to = both (refuseIf fact number place) later (only fact number place from to)
+next : (fact : Bool) (number place : ℕ) (later : InputVerdict) → 11 ≤ number → number ≤ 19 → Numbered later → Numbered (andThen (rejectIf fact number place) later)
+next fact number place later from to = both (rejectIf fact number place) later (only fact number place from to)
 
 pairs : (bytes : List ℕ) (part more expected : ℕ) → Numbered (checkPairs bytes part more expected)
 pairs bytes part zero expected = only (not (eqb expected (length bytes))) 12 _ (omega arith) (omega arith)
@@ -56,7 +59,7 @@ tables : (bytes : List ℕ) (part more : ℕ) → Numbered (checkTables bytes pa
 tables bytes part zero = tt
 tables bytes part (suc more) = both (checkTable (partOf bytes part) (offsetOf bytes part)) _ (table (partOf bytes part) (offsetOf bytes part)) (tables bytes (suc part) more)
 
-step-found : (found : Found) (place : ℕ) (tables stack : List ℕ) (later : Step → Verdict) → ((step : Step) → Numbered (later step))
+step-found : (found : Found) (place : ℕ) (tables stack : List ℕ) (later : Step → InputVerdict) → ((step : Step) → Numbered (later step))
     → Numbered (checkFound found place tables stack later)
 step-found (found.Step step) place tables stack later n =
     next (not (enoughTables step (length stack))) 18 place _ (omega arith) (omega arith) (next (not (placed step tables stack)) 19 place _ (omega arith) (omega arith) (n step))
@@ -79,5 +82,5 @@ input bytes =
     (next (not (lengthFits (partOf bytes 0))) 16 (offsetOf bytes 0) _ (omega arith) (omega arith)
     (steps (partOf bytes 0) (offsetOf bytes 0) 0 (stepCount (partOf bytes 0)) (tableWidths bytes 1 (partCount bytes - 1)) []))))
 
-pub input-numbers : (bytes : List ℕ) (number place : ℕ) → checkInput bytes ≡ refused number place → (11 ≤ number) × (number ≤ 19)
+pub input-numbers : (bytes : List ℕ) (number place : ℕ) → checkInput bytes ≡ rejected number place → (11 ≤ number) × (number ≤ 19)
 input-numbers bytes number place e = subst Numbered e (input bytes)

@@ -1,5 +1,5 @@
 -- Every lent slice keeps its length. Assumes nothing.
-use Prim.Native.Nat.{ℕ, _≤_}
+use Prim.Native.Nat.{_≤_}
 use mathlib.Core.Path.{_≡_, refl}
 use mathlib.Core.Bool.{true, _&&_, and-eq-true-iff}
 use native.Mathlib.Nat.{le-trans}
@@ -9,7 +9,7 @@ use lib.IntN.{pos}
 use lib.ListN.{length, length-map}
 use borrow.Author.Tests.{leb-true}
 use Rattle.plan.specs.Evaluate.{Outcome, release, refuse}
-use Rattle.tally.specs.Lines.{flatLines}
+use Rattle.plan.specs.Trace.{flatLines}
 use Rattle.demands.specs.Lent.{enough}
 use Rattle.demands.specs.Memory.{SameLengths, LengthsKept}
 use Rattle.demands.specs.Monitor.{evaluation, rowsOut, leftBy, Begun}
@@ -18,7 +18,7 @@ use Rattle.demands.proofs.Slices.{filled-length, over-length}
 use Rattle.demands.proofs.Tables.{cells-most, lines-most}
 
 pub lengths-kept : LengthsKept
-lengths-kept bytes lent = by-cases bytes lent (λ run. SameLengths lent (run .left)) (λ short. same) (λ n p long check. same) kept
+lengths-kept given lent = by-cases given lent (λ run. SameLengths lent (run .left)) (λ short. same) (λ n p long check. same) kept
   where
     same : SameLengths lent lent
     same = record { values = refl; labels = refl; output = refl; trace = refl }
@@ -33,16 +33,16 @@ lengths-kept bytes lent = by-cases bytes lent (λ run. SameLengths lent (run .le
         let c = and-eq-true-iff v l .0 (b .0) in
         (leb-true 8192 _ (c .0), leb-true 8192 _ (c .1), leb-true 2048 _ (b .1), leb-true 256 _ (a .1))
 
-    rows-most : Begun bytes lent → (o : Outcome) → evaluation bytes .outcome ≡ o → length (rowsOut o) ≤ 2048
-    rows-most b (release table) o = simp length-map (cells-most bytes (b .accepted-is) table o)
+    rows-most : Begun given lent → (o : Outcome) → evaluation given .outcome ≡ o → length (rowsOut o) ≤ 2048
+    rows-most b (release table) o = simp length-map (cells-most given (b .accepted-is) table o)
     rows-most b (refuse number step row column) o = omega arith
 
-    kept : Begun bytes lent → SameLengths lent (leftBy (evaluation bytes) lent)
+    kept : Begun given lent → SameLengths lent (leftBy (evaluation given) lent)
     kept b =
         let h = long (b .long) in
         record {
           values = filled-length 8192 (pos 0) (lent .values) (h .0);
           labels = filled-length 8192 0 (lent .labels) (h .1);
-          output = over-length (rowsOut (evaluation bytes .outcome)) (lent .output) (le-trans (rows-most b (evaluation bytes .outcome) refl) (h .2));
-          trace = over-length (flatLines (evaluation bytes .trace)) (lent .trace) (le-trans (lines-most bytes (b .accepted-is)) (h .3));
+          output = over-length (rowsOut (evaluation given .outcome)) (lent .output) (le-trans (rows-most b (evaluation given .outcome) refl) (h .2));
+          trace = over-length (flatLines (evaluation given .trace)) (lent .trace) (le-trans (lines-most given (b .accepted-is)) (h .3));
         }

@@ -17,21 +17,21 @@ never-input (release table) e = let z : _≡_ {A = ℕ} 0 1 = cc in omega arith
 never-input (refuse number step row column) e = let z : _≡_ {A = ℕ} 0 1 = cc in omega arith
 
 pub input-refusal-keeps-all : InputRefusalKeepsAll
-input-refusal-keeps-all bytes lent number place =
-    by-cases bytes lent (λ run. run .answer ≡ refusedInput number place → run .left ≡ lent) (λ short e. refl) (λ n p long check e. refl)
-    (λ begun e. absurd (never-input (evaluation bytes .outcome) e))
+input-refusal-keeps-all given lent number place =
+    by-cases given lent (λ run. run .answer ≡ refusedInput number place → run .left ≡ lent) (λ short e. refl) (λ n p long check e. refl)
+    (λ begun e. absurd (never-input (evaluation given .outcome) e))
 
 pub refusal-keeps-output : RefusalKeepsOutput
-refusal-keeps-output bytes lent =
-    by-cases bytes lent (λ run. ((rows columns : ℕ) → run .answer ≢ released rows columns) → run .left .output ≡ lent .output)
-    (λ short other. refl) (λ n p long check other. refl) (λ begun. by-outcome (evaluation bytes .outcome))
+refusal-keeps-output given lent =
+    by-cases given lent (λ run. ((rows columns : ℕ) → run .answer ≢ released rows columns) → run .left .output ≡ lent .output)
+    (λ short other. refl) (λ n p long check other. refl) (λ begun. by-outcome (evaluation given .outcome))
   where
     by-outcome : (o : Outcome) → ((rows columns : ℕ) → answerOf o ≢ released rows columns) → written (rowsOut o) (lent .output) ≡ lent .output
     by-outcome (release table) other = absurd (other _ _ refl)
     by-outcome (refuse number step row column) other = refl
 
 pub begun-leaves-zero : BegunLeavesZero
-begun-leaves-zero bytes lent b = rw (begun-run bytes lent b) (record {
+begun-leaves-zero given lent b = rw (begun-run given lent b) (record {
   values-zero = filled-get 8192 (pos 0) (lent .values);
   values-past = filled-past 8192 (pos 0) (lent .values);
   labels-zero = filled-get 8192 0 (lent .labels);

@@ -8,24 +8,23 @@ use native.Mathlib.Omega.{arith}
 use lib.Dec.{leb}
 use lib.ListN.{length, drop}
 use borrow.Author.Tests.{leb-true}
-use Rattle.container.specs.Accepted.{Placed}
-use Rattle.container.specs.Check.{accepted, checkInput}
-use Rattle.container.specs.Contents.{planOf, tablesOf}
-use Rattle.container.proofs.AcceptedPlan.{plan-placed, steps-counted}
-use Rattle.container.proofs.AcceptedTables.{tables-sound}
-use Rattle.cells.specs.promises.Cells.{flat}
+use Rattle.accepted.specs.Accepted.{Placed}
+use Rattle.input.specs.Verdict.{accepted}
+use Rattle.accepted.proofs.AcceptedPlan.{plan-placed, steps-counted}
+use Rattle.accepted.proofs.AcceptedTables.{tables-sound}
+use Rattle.plan.specs.Table.{flat, Each, Shaped, Table, noTable, grid, top}
 use Rattle.memory.specs.promises.Steps.{widthsOf}
 use Rattle.cells.proofs.RowReads.{flat-length}
 use Rattle.plan.specs.Evaluate.{release, Result, checkRelease, ending, evaluateFrom, evaluate}
-use Rattle.plan.specs.Sense.{Each, Shaped, Small}
+use Rattle.plan.specs.Sense.{Small}
 use Rattle.plan.specs.Steps.{takes, check, make, tooMany}
-use Rattle.plan.specs.Table.{Table, noTable, grid, top}
 use Rattle.plan.specs.Verdict.{Verdict, fine, refused}
 use Rattle.plan.specs.Widths.{columnsExist, madeColumns, placed}
 use Rattle.plan.specs.declared.Step.{Step}
 use Rattle.plan.proofs.SenseShape.{each-get, made-shaped, made-small}
-use Rattle.tally.specs.Lines.{flatLines}
+use Rattle.plan.specs.Trace.{flatLines}
 use Rattle.tally.proofs.Laws.{lines-length}
+use Rattle.demands.specs.Given.{Given, checkGiven, planGiven, prepared}
 use Rattle.demands.specs.Monitor.{evaluation}
 use Rattle.demands.proofs.Widths.{each-drop, each-weaker, made-columns, placed-after}
 
@@ -41,8 +40,8 @@ each-small : (tables : List Table) → Each Held tables → Each Small tables
 each-small = each-weaker Held Small (λ table h. h .small)
 
 -- an accepted container's tables
-tables-held : (bytes : List ℕ) → checkInput bytes ≡ accepted → Each Held (tablesOf bytes)
-tables-held bytes e = let t = tables-sound bytes e in all (tablesOf bytes) (t .0) (t .1) (t .2)
+tables-held : (given : Given) → checkGiven given ≡ accepted → Each Held (prepared given)
+tables-held given e = let t = tables-sound (given .container) e in all (prepared given) (t .0) (t .1) (t .2)
   where
     all : (tables : List Table) → Each Shaped tables → Each Small tables → Each (λ table. (1 ≤ table .columns) × (table .columns ≤ 8)) tables → Each Held tables
     all [] s m w = tt
@@ -93,16 +92,16 @@ trace-length tables step stack (next ∷ later) =
 
 -- ---- an accepted container
 
-module _ (bytes : List ℕ) (e : checkInput bytes ≡ accepted) where
-  module _ (table : Table) (o : evaluation bytes .outcome ≡ release table) where
+module _ (given : Given) (e : checkGiven given ≡ accepted) where
+  module _ (table : Table) (o : evaluation given .outcome ≡ release table) where
     pub release-held : Held table
     unfolding evaluation evaluate
-    release-held = released-held (tablesOf bytes) (tables-held bytes e) 0 [] (planOf bytes) tt (plan-placed bytes e) table o
+    release-held = released-held (prepared given) (tables-held given e) 0 [] (planGiven given) tt (plan-placed (given .container) e) table o
 
     pub cells-most : length (flat (table .rows)) ≤ 2048
     cells-most =
         le-trans (le-of-eq (flat-length (table .columns) (table .rows) (release-held .shaped))) (mul-le-mul (release-held .small) (release-held .few))
 
-  pub lines-most : length (flatLines (evaluation bytes .trace)) ≤ 256
+  pub lines-most : length (flatLines (evaluation given .trace)) ≤ 256
   unfolding evaluation evaluate
-  lines-most = omega (arith, lines-length (evaluation bytes .trace), trace-length (tablesOf bytes) 0 [] (planOf bytes), steps-counted bytes e)
+  lines-most = omega (arith, lines-length (evaluation given .trace), trace-length (prepared given) 0 [] (planGiven given), steps-counted (given .container) e)

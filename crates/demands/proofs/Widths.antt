@@ -3,7 +3,7 @@ use Prim.Native.Nat.{ℕ, zero, suc}
 use mathlib.Core.Path.{_≡_, refl, sym, ap₂}
 use mathlib.Core.List.{List, [], _∷_}
 use lib.ListN.{getD, take, drop, List·getD-map}
-use Rattle.container.specs.Accepted.{Placed}
+use Rattle.accepted.specs.Accepted.{Placed}
 use Rattle.memory.specs.promises.Steps.{widthsOf}
 use Rattle.plan.specs.Apply.{applied}
 use Rattle.plan.specs.Filter.{filtered}
@@ -11,9 +11,8 @@ use Rattle.plan.specs.Group.{grouped}
 use Rattle.plan.specs.Join.{joined}
 use Rattle.plan.specs.Keep.{kept}
 use Rattle.plan.specs.Scan.{scanned}
-use Rattle.plan.specs.Sense.{Each}
 use Rattle.plan.specs.Steps.{takes, make}
-use Rattle.plan.specs.Table.{Table, noTable}
+use Rattle.plan.specs.Table.{Table, noTable, Each}
 use Rattle.plan.specs.Union.{united}
 use Rattle.plan.specs.Widths.{madeColumns}
 use Rattle.plan.specs.declared.Step.{Step}

@@ -5,12 +5,13 @@ use mathlib.Core.List.{List}
 use mathlib.Core.Logic.{_≢_}
 use lib.ListN.{length, getD, drop}
 use Rattle.demands.specs.Calls.{RunCall, runCalled, runCall}
+use Rattle.demands.specs.Given.{Given}
 use Rattle.demands.specs.Lent.{Lent}
 use Rattle.demands.specs.Memory.{Zeroed, SameLengths}
 
 -- a slice for the answer that is too short gives 1, and nothing lent changes
 abbrev pub CallShortKeepsAll : Type 0
-CallShortKeepsAll = (bytes : List ℕ) (lent : Lent) (answer : List ℕ) → length answer < 4 → runCall bytes lent answer ≡ runCalled 1 lent answer
+CallShortKeepsAll = (given : Given) (lent : Lent) (answer : List ℕ) → length answer < 4 → runCall given lent answer ≡ runCalled 1 lent answer
 
 -- What a call leaves in the four slices of the run, by the number that it returns: 1 and 11 to 19 change none of them, no refusal alters the
 -- output, and 0 and 31 to 36 leave work memory zero.
@@ -22,7 +23,7 @@ pub record Leaves (lent : Lent) (call : RunCall) : Type 0 where
   pub lengths : SameLengths lent (call .left)
 
 abbrev pub CallLeaves : Type 0
-CallLeaves = (bytes : List ℕ) (lent : Lent) (answer : List ℕ) → Leaves lent (runCall bytes lent answer)
+CallLeaves = (given : Given) (lent : Lent) (answer : List ℕ) → Leaves lent (runCall given lent answer)
 
 -- The slice for the answer begins with the number returned, where it has the `count` elements of an answer; what lies past those is as it was.
 pub record RestKept (count : ℕ) (answer : List ℕ) (number : ℕ) (left : List ℕ) : Type 0 where
@@ -31,4 +32,4 @@ pub record RestKept (count : ℕ) (answer : List ℕ) (number : ℕ) (left : Lis
   pub same-length : length left ≡ length answer
 
 abbrev pub CallKeepsRest : Type 0
-CallKeepsRest = (bytes : List ℕ) (lent : Lent) (answer : List ℕ) → RestKept 4 answer (runCall bytes lent answer .number) (runCall bytes lent answer .answer)
+CallKeepsRest = (given : Given) (lent : Lent) (answer : List ℕ) → RestKept 4 answer (runCall given lent answer .number) (runCall given lent answer .answer)

@@ -4,8 +4,10 @@ use mathlib.Core.Bool.{cond}
 use mathlib.Core.List.{List, [], _∷_}
 use lib.Dec.{leb}
 use lib.ListN.{length, getD}
-use Rattle.container.specs.Check.{Verdict, accepted, refused, checkInput}
+use Rattle.container.specs.Check.{checkInput}
+use Rattle.input.specs.Verdict.{InputVerdict, accepted, rejected}
 use Rattle.demands.specs.Answers.{Told, released, refusedInput, refusedState}
+use Rattle.demands.specs.Given.{Given}
 use Rattle.demands.specs.Lent.{Lent}
 use Rattle.demands.specs.Monitor.{Run, written, monitor}
 
@@ -30,15 +32,15 @@ abbrev pub runTold : Run → List ℕ → RunCall
 runTold run answer = runCalled (getD (numbersOf (run .answer)) 0 0) (run .left) (written (numbersOf (run .answer)) answer)
 
 -- "1: a lent slice is too short .. First of all checks; .. nothing changes": the slice for the answer needs 4 elements
-unfoldable pub runCall : List ℕ → Lent → List ℕ → RunCall
-runCall bytes lent answer = cond (leb 4 (length answer)) (runTold (monitor bytes lent) answer) (runCalled 1 lent answer)
+unfoldable pub runCall : Given → Lent → List ℕ → RunCall
+runCall given lent answer = cond (leb 4 (length answer)) (runTold (monitor given lent) answer) (runCalled 1 lent answer)
 
 -- ---- `cilunovay_check`
 
 -- what the input checks answer: two zeros; or document 01's number and the byte offset
-abbrev pub checkNumbersOf : Verdict → List ℕ
+abbrev pub checkNumbersOf : InputVerdict → List ℕ
 checkNumbersOf accepted = 0 ∷ 0 ∷ []
-checkNumbersOf (refused number place) = number ∷ place ∷ []
+checkNumbersOf (rejected number place) = number ∷ place ∷ []
 
 pub record CheckCall : Type 0 where
   pub number : ℕ

@@ -3,7 +3,8 @@ use Prim.Native.Nat.{ℕ, _≤_, _<_}
 use mathlib.Core.Path.{_≡_}
 use mathlib.Core.List.{List, _∷_}
 use lib.ListN.{length, drop}
-use Rattle.container.specs.Check.{accepted, refused, checkInput}
+use Rattle.container.specs.Check.{checkInput}
+use Rattle.input.specs.Verdict.{accepted, rejected}
 use Rattle.demands.specs.CallMemory.{RestKept}
 use Rattle.demands.specs.Calls.{CheckCall, checkCalled, checkCall}
 
@@ -23,13 +24,13 @@ abbrev pub CheckAccepts : Type 0
 CheckAccepts = (bytes answer : List ℕ) → 2 ≤ length answer → checkInput bytes ≡ accepted → checkCall bytes answer ≡ checkCalled 0 (0 ∷ 0 ∷ drop 2 answer)
 
 abbrev pub CheckRefuses : Type 0
-CheckRefuses = (bytes answer : List ℕ) → 2 ≤ length answer → (number place : ℕ) → checkInput bytes ≡ refused number place
+CheckRefuses = (bytes answer : List ℕ) → 2 ≤ length answer → (number place : ℕ) → checkInput bytes ≡ rejected number place
     → checkCall bytes answer ≡ checkCalled number (number ∷ place ∷ drop 2 answer)
 
 -- why a call tells what it tells: 0 for an accepted container, 11 to 19 for a refusal, 1 for a slice too short, and no other
 pub data Checked (bytes answer : List ℕ) (call : CheckCall) : Type 0 where
   accepts : 2 ≤ length answer → call ≡ checkCalled 0 (0 ∷ 0 ∷ drop 2 answer) → checkInput bytes ≡ accepted → Checked bytes answer call
-  refuses : {number place : ℕ} → 2 ≤ length answer → call ≡ checkCalled number (number ∷ place ∷ drop 2 answer) → checkInput bytes ≡ refused number place
+  refuses : {number place : ℕ} → 2 ≤ length answer → call ≡ checkCalled number (number ∷ place ∷ drop 2 answer) → checkInput bytes ≡ rejected number place
       → 11 ≤ number → number ≤ 19 → Checked bytes answer call
   short : length answer < 2 → call .number ≡ 1 → Checked bytes answer call
 

@@ -1,4 +1,5 @@
 -- The monitor and the library's calls, and their three demands. These files are what a reader must believe.
+pub mod Given
 pub mod Lent
 pub mod Answers
 pub mod Monitor

@@ -2,26 +2,26 @@
 use Prim.Native.Nat.{ℕ, _<_}
 use mathlib.Core.Path.{_≡_}
 use mathlib.Core.Bool.{false}
-use mathlib.Core.List.{List}
 use mathlib.Core.Logic.{_≢_}
 use lib.IntN.{ℤ, pos}
 use lib.ListN.{length, getD, drop}
 use Rattle.demands.specs.Answers.{released, refusedInput, refusedState}
+use Rattle.demands.specs.Given.{Given}
 use Rattle.demands.specs.Lent.{Lent, enough}
 use Rattle.demands.specs.Monitor.{Begun, monitor}
 
 -- no refusal alters the output
 abbrev pub RefusalKeepsOutput : Type 0
-RefusalKeepsOutput = (bytes : List ℕ) (lent : Lent) → ((rows columns : ℕ) → monitor bytes lent .answer ≢ released rows columns)
-    → monitor bytes lent .left .output ≡ lent .output
+RefusalKeepsOutput = (given : Given) (lent : Lent) → ((rows columns : ℕ) → monitor given lent .answer ≢ released rows columns)
+    → monitor given lent .left .output ≡ lent .output
 
 -- an input refusal alters nothing, and neither does 1
 abbrev pub InputRefusalKeepsAll : Type 0
-InputRefusalKeepsAll = (bytes : List ℕ) (lent : Lent) (number place : ℕ) → monitor bytes lent .answer ≡ refusedInput number place
-    → monitor bytes lent .left ≡ lent
+InputRefusalKeepsAll = (given : Given) (lent : Lent) (number place : ℕ) → monitor given lent .answer ≡ refusedInput number place
+    → monitor given lent .left ≡ lent
 
 abbrev pub ShortKeepsAll : Type 0
-ShortKeepsAll = (bytes : List ℕ) (lent : Lent) → enough lent ≡ false → monitor bytes lent ≡ record { answer = refusedState 1 0 0 0; left = lent }
+ShortKeepsAll = (given : Given) (lent : Lent) → enough lent ≡ false → monitor given lent ≡ record { answer = refusedState 1 0 0 0; left = lent }
 
 -- a run that was begun leaves its work memory zero, and what lies past the first 8,192 elements as it was
 pub record Zeroed (lent left : Lent) : Type 0 where
@@ -31,7 +31,7 @@ pub record Zeroed (lent left : Lent) : Type 0 where
   pub labels-past : drop 8192 (left .labels) ≡ drop 8192 (lent .labels)
 
 abbrev pub BegunLeavesZero : Type 0
-BegunLeavesZero = (bytes : List ℕ) (lent : Lent) → Begun bytes lent → Zeroed lent (monitor bytes lent .left)
+BegunLeavesZero = (given : Given) (lent : Lent) → Begun given lent → Zeroed lent (monitor given lent .left)
 
 -- every slice keeps its length
 pub record SameLengths (lent left : Lent) : Type 0 where
@@ -41,4 +41,4 @@ pub record SameLengths (lent left : Lent) : Type 0 where
   pub trace : length (left .trace) ≡ length (lent .trace)
 
 abbrev pub LengthsKept : Type 0
-LengthsKept = (bytes : List ℕ) (lent : Lent) → SameLengths lent (monitor bytes lent .left)
+LengthsKept = (given : Given) (lent : Lent) → SameLengths lent (monitor given lent .left)

@@ -1,27 +1,21 @@
--- The monitor: from a container and the lent slices to the answer and what the slices hold afterwards.
-use Prim.Native.Nat.{ℕ}
+-- The monitor: from what it is given and the lent slices to the answer and what the slices hold afterwards.
 use mathlib.Core.Path.{_≡_}
 use mathlib.Core.Bool.{true, cond}
 use mathlib.Core.List.{List, [], _++_, map}
 use lib.IntN.{ℤ, pos}
 use lib.ListN.{length, drop}
-use Rattle.container.specs.Check.{Verdict, accepted, refused, checkInput}
-use Rattle.container.specs.Contents.{planOf, tablesOf}
-use Rattle.cells.specs.promises.Cells.{flat}
+use Rattle.input.specs.Verdict.{InputVerdict, accepted, rejected}
+use Rattle.plan.specs.Table.{flat}
 use Rattle.plan.specs.Evaluate.{Outcome, release, refuse, Result, evaluate}
-use Rattle.plan.specs.Table.{Table}
-use Rattle.tally.specs.Lines.{flatLines}
+use Rattle.plan.specs.Trace.{flatLines}
 use Rattle.tally.specs.Zeros.{filled}
 use Rattle.demands.specs.Answers.{Told, released, refusedInput, refusedState}
+use Rattle.demands.specs.Given.{Given, checkGiven, planGiven, prepared}
 use Rattle.demands.specs.Lent.{Lent, enough}
 
--- the tables that a plan is evaluated over: the container's as they are
-abbrev pub prepared : List ℕ → List Table
-prepared bytes = tablesOf bytes
-
--- the evaluation of a container's plan
-unfoldable pub evaluation : List ℕ → Result
-evaluation bytes = evaluate (planOf bytes) (prepared bytes)
+-- the evaluation of the plan
+unfoldable pub evaluation : Given → Result
+evaluation given = evaluate (planGiven given) (prepared given)
 
 abbrev pub answerOf : Outcome → Told
 answerOf (release table) = released (length (table .rows)) (table .columns)
@@ -53,15 +47,15 @@ pub record Run : Type 0 where
 abbrev pub ended : Told → Lent → Run
 ended answer left = record { answer = answer; left = left }
 
-abbrev pub byInput : Verdict → List ℕ → Lent → Run
-byInput (refused number place) bytes lent = ended (refusedInput number place) lent
-byInput accepted bytes lent = ended (answerOf (evaluation bytes .outcome)) (leftBy (evaluation bytes) lent)
+abbrev pub byInput : InputVerdict → Given → Lent → Run
+byInput (rejected number place) given lent = ended (refusedInput number place) lent
+byInput accepted given lent = ended (answerOf (evaluation given .outcome)) (leftBy (evaluation given) lent)
 
 -- "1 .. First of all checks"; then the input checks; then the evaluation
-unfoldable pub monitor : List ℕ → Lent → Run
-monitor bytes lent = cond (enough lent) (byInput (checkInput bytes) bytes lent) (ended (refusedState 1 0 0 0) lent)
+unfoldable pub monitor : Given → Lent → Run
+monitor given lent = cond (enough lent) (byInput (checkGiven given) given lent) (ended (refusedState 1 0 0 0) lent)
 
 -- a run that is past 1 and past the input checks
-pub record Begun (bytes : List ℕ) (lent : Lent) : Type 0 where
+pub record Begun (given : Given) (lent : Lent) : Type 0 where
   pub long : enough lent ≡ true
-  pub accepted-is : checkInput bytes ≡ accepted
+  pub accepted-is : checkGiven given ≡ accepted

@@ -1,8 +1,3 @@
 -- What the proofs share.
-pub mod LabelledSteps
-mod LineMeaning
-mod TakenMeaning
-mod Walking
-mod OneStep
 mod RunMeaning
 mod ReleaseMeaning

@@ -1,103 +1,111 @@
 -- A run is the monitor. Assumes nothing.
-use Prim.Native.Nat.{ℕ, _≤_}
-use mathlib.Core.Path.{_≡_, refl, sym, ap, _∙_}
-use mathlib.Core.Bool.{Bool, true, false, cond, _&&_, and-eq-true-iff, true≢false}
+use Prim.Native.Nat.{ℕ, _≤_, _<_}
+use mathlib.Core.Path.{_≡_, refl, sym, ap, ap₂, _∙_}
+use mathlib.Core.Bool.{Bool, true, false, cond, _&&_, and-false, and-eq-true-iff}
 use mathlib.Core.List.{List, _++_}
 use native.Mathlib.Omega.{arith}
 use lib.Dec.{leb}
 use lib.IntN.{ℤ, pos}
-use lib.ListN.{length, getD, drop, replicate}
-use borrow.Author.Tests.{leb-true, le-leb}
-use Rattle.container.specs.Check as input
-use Rattle.cells.specs.promises.Search.{says}
-use Rattle.cells.specs.promises.Work.{Work, work, room, Kept}
-use Rattle.memory.specs.declared.Refusal.{Refusal}
-use Rattle.memory.specs.declared.StepAnswer.the-variants.{Made, Refused}
-use Rattle.memory.specs.promises.Stack.{tableIn}
-use Rattle.memory.specs.promises.Steps.{refusalSays, stepSays}
-use Rattle.plan.specs.Evaluate.{Outcome}
-use Rattle.plan.specs.Verdict.{refused}
-use Rattle.tally.specs.Lines.{flatLines}
-use Rattle.tally.specs.Zeros.{clears, filled}
+use lib.ListN.{length, drop, replicate}
+use borrow.Author.Tests.{leb-true, le-leb, lt-leb}
+use Rattle.cells.specs.promises.Work.{Work, work, room}
+use Rattle.input.specs.Answers.{inputTells}
+use Rattle.input.specs.Verdict.{rejected}
+use Rattle.input.specs.declared.InputRefusal.{InputRefusal}
 use Rattle.demands.specs.Answers.{Told, refusedInput, refusedState}
-use Rattle.evaluator.specs.Finish.{finish}
-use Rattle.demands.specs.Lent.{longEnough, lent}
+use Rattle.demands.specs.Given.{Given, checkGiven}
+use Rattle.demands.specs.Lent.{lent, enough}
 use Rattle.demands.specs.Monitor.{evaluation, answerOf, rowsOut, written, ended, monitor}
-use Rattle.evaluator.specs.Walk.{isAccepted, Walked}
-use Rattle.evaluator.specs.declared.Ended.{Ended}
+use Rattle.memory.specs.Refusals.{refusalTells}
+use Rattle.memory.specs.declared.Refusal.{Refusal}
+use Rattle.memory.specs.promises.Stack.{tableIn}
+use Rattle.plan.specs.Evaluate.{Outcome, refuse}
+use Rattle.tally.specs.Zeros.{filled}
+use Rattle.tally.specs.promises.Zeros.{clears}
+use Rattle.walk.specs.declared.WalkAnswer.the-variants.{Refused, Finished}
+use Rattle.walk.specs.promises.Walk.{roomIn, finish, Stepped, Walked}
+use Rattle.input.proofs.Numbers.{input-tells}
 use Rattle.demands.proofs.Runs.{short-keeps-all as short-run, input-run, begun-run}
 use Rattle.memory.proofs.Finish.{verdicts}
 use Rattle.tally.proofs.Laws.{filled-is}
 
--- ---- the end of the steps, as the run's answer
-
-module _ {bytes : List ℕ} {w₀ : Work} {t₀ : List ℕ} {stop : Ended} {w : Work} {t : List ℕ} (walked : Walked bytes w₀ t₀ stop w t) where
-  pub refused-told : (o : List ℤ) (refusal : Refusal) {told : Told} → stop .answer ≡ Refused refusal
-      → ((number row column : ℕ) → refusalSays refusal ≡ refused number row column → told ≡ refusedState number (stop .step) row column)
-      → (told ≡ answerOf (evaluation bytes .outcome)) × (o ≡ written (rowsOut (evaluation bytes .outcome)) o)
-  refused-told o refusal a e =
-      let v = verdicts refusal in
-      let outcome = walked .refusal (v .number) (v .row) (v .column) (ap stepSays a ∙ ap says (v .is)) in
-      (e (v .number) (v .row) (v .column) (v .is) ∙ ap answerOf (sym outcome), ap (λ (r : Outcome). written (rowsOut r) o) (sym outcome))
-
-  module _ (a : stop .answer ≡ Made) where
-    pub few-rows : getD (stop .stack .rows) 0 0 ≤ 256
-    few-rows = walked .all-made (ap stepSays a) .0
-
-    pub few-columns : getD (stop .stack .columns) 0 0 ≤ 8
-    few-columns = walked .all-made (ap stepSays a) .1
-
-    pub finish-told : (o : List ℤ) {told : Told} {o′ : List ℤ}
-        → told ≡ answerOf (finish (stop .step) (tableIn w 0 (getD (stop .stack .columns) 0 0) (getD (stop .stack .rows) 0 0)))
-        → o′ ≡ written (rowsOut (finish (stop .step) (tableIn w 0 (getD (stop .stack .columns) 0 0) (getD (stop .stack .rows) 0 0)))) o
-        → (told ≡ answerOf (evaluation bytes .outcome)) × (o′ ≡ written (rowsOut (evaluation bytes .outcome)) o)
-    finish-told o e f =
-        let outcome = walked .all-made (ap stepSays a) .2 in
-        (e ∙ ap answerOf (sym outcome), f ∙ ap (λ (r : Outcome). written (rowsOut r) o) (sym outcome))
-
--- ---- the run
-
--- the lengths that a run needs
-pub lengths : (v l o t : ℕ) → longEnough v l o t ≡ true → (8192 ≤ v) × (8192 ≤ l) × (2048 ≤ o) × (256 ≤ t)
-lengths v l o t e =
-    let a = and-eq-true-iff (leb 8192 v && leb 8192 l && leb 2048 o) (leb 256 t) .0 e in
-    let b = and-eq-true-iff (leb 8192 v && leb 8192 l) (leb 2048 o) .0 (a .0) in
-    let c = and-eq-true-iff (leb 8192 v) (leb 8192 l) .0 (b .0) in
-    (leb-true 8192 v (c .0), leb-true 8192 l (c .1), leb-true 2048 o (b .1), leb-true 256 t (a .1))
-
-pub accepted-is : (bytes : List ℕ) {v : input.Verdict} → v ≡ input.checkInput bytes → isAccepted v ≡ true → input.checkInput bytes ≡ input.accepted
-accepted-is bytes {v} e a = sym e ∙ either v a
-  where
-    either : (v : input.Verdict) → isAccepted v ≡ true → v ≡ input.accepted
-    either input.accepted a = refl
-    either (input.refused number place) a = absurd (true≢false (sym a))
+swap : (a b c : Bool) → (a && b) && c ≡ (a && c) && b
+swap true true true = refl
+swap true true false = refl
+swap true false true = refl
+swap true false false = refl
+swap false b c = refl
 
 filled-same : {A : Type 0} (count : ℕ) (x : A) (old new : List A) → drop count new ≡ drop count old → filled count x new ≡ filled count x old
 filled-same {A} count x old new e = filled-is count x new ∙ ap (λ (l : List A). replicate count x ++ l) e ∙ sym (filled-is count x old)
 
-module _ (bytes : List ℕ) (v : List ℤ) (l : List ℕ) (o : List ℤ) (t : List ℕ) where
-  pub run-short : longEnough (length v) (length l) (length o) (length t) ≡ false → ended (refusedState 1 0 0 0) (lent v l o t) ≡ monitor bytes (lent v l o t)
-  run-short e = sym (short-run bytes (lent v l o t) e)
+-- the evaluation, as the answer and the output have it, after a walk
+pub record Evaluated (given : Given) (w : Work) (o : List ℤ) (t : List ℕ) (told : Told) (w₁ : Work) (o₁ : List ℤ) (t₁ : List ℕ) : Type 0 where
+  pub stepped : Stepped given w t w₁ t₁
+  pub told-is : told ≡ answerOf (evaluation given .outcome)
+  pub output-is : o₁ ≡ written (rowsOut (evaluation given .outcome)) o
 
-  module _ (long : longEnough (length v) (length l) (length o) (length t) ≡ true) where
-    pub run-input : {check : input.Verdict} {told : Told} → check ≡ input.checkInput bytes → isAccepted check ≡ false → ((number place : ℕ) → check ≡ input.refused number place → told ≡ refusedInput number place)
-        → ended told (lent v l o t) ≡ monitor bytes (lent v l o t)
-    run-input {check} {told} c a e = either check refl
-      where
-        either : (k : input.Verdict) → check ≡ k → ended told (lent v l o t) ≡ monitor bytes (lent v l o t)
-        either input.accepted k = absurd (true≢false (sym (ap isAccepted k) ∙ a))
-        either (input.refused number place) k =
-            ap (λ (answer : Told). ended answer (lent v l o t)) (e number place k) ∙ sym (input-run bytes (lent v l o t) number place long (sym c ∙ k))
+module _ (given : Given) (v : List ℤ) (l : List ℕ) (o : List ℤ) (t : List ℕ) where
+  -- a run needs what a walk needs, and an output
+  enough-is : enough (lent v l o t) ≡ roomIn (work v l) t && leb 2048 (length o)
+  enough-is = swap (leb 8192 (length v) && leb 8192 (length l)) (leb 2048 (length o)) (leb 256 (length t))
+
+  pub output-short : length o < 2048 → ended (refusedState 1 0 0 0) (lent v l o t) ≡ monitor given (lent v l o t)
+  output-short h = sym (short-run given (lent v l o t) (enough-is ∙ rw (lt-leb 2048 (length o) h) (and-false (roomIn (work v l) t))))
+
+  module _ (long : 2048 ≤ length o) {w₁ : Work} {t₁ : List ℕ} where
+    -- the slices are as they were
+    unchanged : (told : Told) → w₁ ≡ work v l → t₁ ≡ t → ended told (lent (w₁ .values) (w₁ .labels) o t₁) ≡ ended told (lent v l o t)
+    unchanged told = ap₂ (λ (w : Work) (t : List ℕ). ended told (lent (w .values) (w .labels) o t))
+
+    pub work-short : (roomIn (work v l) t ≡ false) × (w₁ ≡ work v l) × (t₁ ≡ t) → ended (refusedState 1 0 0 0) (lent (w₁ .values) (w₁ .labels) o t₁) ≡ monitor given (lent v l o t)
+    work-short s = unchanged (refusedState 1 0 0 0) (s .1) (s .2) ∙ sym (short-run given (lent v l o t) (enough-is ∙ rw (s .0)))
+
+    pub input-refused : (refusal : InputRefusal) → (roomIn (work v l) t ≡ true) × (inputTells rejected refusal ≡ checkGiven given) × (w₁ ≡ work v l) × (t₁ ≡ t)
+        → ended (inputTells refusedInput refusal) (lent (w₁ .values) (w₁ .labels) o t₁) ≡ monitor given (lent v l o t)
+    input-refused refusal s =
+        let n = input-tells refusal in
+        let enough-so : enough (lent v l o t) ≡ true = enough-is ∙ rw (s .0, le-leb 2048 (length o) long) in
+        unchanged (inputTells refusedInput refusal) (s .2) (s .3)
+        ∙ ap (λ (told : Told). ended told (lent v l o t)) (n .tells refusedInput)
+        ∙ sym (input-run given (lent v l o t) (n .number) (n .place) enough-so (sym (s .1) ∙ n .tells rejected))
+
+    pub step-refused : (step : ℕ) (refusal : Refusal) → Walked given (work v l) t (Refused step refusal) w₁ t₁
+        → Evaluated given (work v l) o t (refusalTells (λ number row column. refusedState number step row column) refusal) w₁ o t₁
+    step-refused step refusal s =
+        let n = verdicts refusal in
+        let outcome = s .1 ∙ n .tells (λ number row column. refuse number step row column) in
+        record {
+          stepped = s .0;
+          told-is = n .tells (λ number row column. refusedState number step row column) ∙ ap answerOf (sym outcome);
+          output-is = ap (λ (r : Outcome). written (rowsOut r) o) (sym outcome);
+        }
+
+    pub steps-finished : (steps rows columns : ℕ) {told : Told} {o₁ : List ℤ} → Walked given (work v l) t (Finished steps rows columns) w₁ t₁
+        → told ≡ answerOf (finish steps (tableIn w₁ 0 columns rows)) → o₁ ≡ written (rowsOut (finish steps (tableIn w₁ 0 columns rows))) o → Evaluated given (work v l) o t told w₁ o₁ t₁
+    steps-finished steps rows columns s et eo = record {
+      stepped = s .0;
+      told-is = et ∙ ap answerOf (sym (s .1 .outcome));
+      output-is = eo ∙ ap (λ (r : Outcome). written (rowsOut r) o) (sym (s .1 .outcome));
+    }
+
+    -- what a walk needs is still there
+    pub still-long : Stepped given (work v l) t w₁ t₁ → (room ≤ length (w₁ .values)) × (room ≤ length (w₁ .labels))
+    still-long s =
+        let a = and-eq-true-iff (leb room (length v) && leb room (length l)) (leb 256 (length t)) .0 (s .long) in
+        let b = and-eq-true-iff (leb room (length v)) (leb room (length l)) .0 (a .0) in
+        (omega (arith, leb-true room (length v) (b .0), s .kept .as-many-values), omega (arith, leb-true room (length l) (b .1), s .kept .as-many-labels))
 
     -- the evaluation, and then zeros
-    pub run-begun : {told : Told} {o₁ : List ℤ} {t₁ : List ℕ} {v₁ v₂ : List ℤ} {l₁ l₂ : List ℕ} {cleared : Bool} → input.checkInput bytes ≡ input.accepted
-        → told ≡ answerOf (evaluation bytes .outcome) → o₁ ≡ written (rowsOut (evaluation bytes .outcome)) o → t₁ ≡ written (flatLines (evaluation bytes .trace)) t
-        → Kept (work v l) (work v₁ l₁) → cleared ≡ clears v₁ l₁ → v₂ ≡ cond cleared (filled 8192 (pos 0) v₁) v₁ → l₂ ≡ cond cleared (filled 8192 0 l₁) l₁
-        → ended told (lent v₂ l₂ o₁ t₁) ≡ monitor bytes (lent v l o t)
-    run-begun {v₁ = v₁} {l₁ = l₁} {cleared = cleared} ok et eo et₁ k ec ev el =
-        let n = lengths (length v) (length l) (length o) (length t) long in
-        let yes : cleared ≡ true = ec ∙ rw (le-leb 8192 (length v₁) (omega (arith, n .0, k .as-many-values)), le-leb 8192 (length l₁) (omega (arith, n .1, k .as-many-labels))) in
-        let vs = ev ∙ ap (λ (b : Bool). cond b (filled 8192 (pos 0) v₁) v₁) yes ∙ filled-same 8192 (pos 0) v v₁ (k .values-past) in
-        let ls = el ∙ ap (λ (b : Bool). cond b (filled 8192 0 l₁) l₁) yes ∙ filled-same 8192 0 l l₁ (k .labels-past) in
-        (λ i. record { answer = et i; left = record { values = vs i; labels = ls i; output = eo i; trace = et₁ i } })
-        ∙ sym (begun-run bytes (lent v l o t) (record { long = long; accepted-is = ok }))
+    pub run-begun : {told : Told} {o₁ : List ℤ} {v₂ : List ℤ} {l₂ : List ℕ} {cleared : Bool} → Evaluated given (work v l) o t told w₁ o₁ t₁ → cleared ≡ clears (w₁ .values) (w₁ .labels)
+        → v₂ ≡ cond cleared (filled 8192 (pos 0) (w₁ .values)) (w₁ .values) → l₂ ≡ cond cleared (filled 8192 0 (w₁ .labels)) (w₁ .labels)
+        → ended told (lent v₂ l₂ o₁ t₁) ≡ monitor given (lent v l o t)
+    run-begun {cleared = cleared} e c cv cl =
+        let s = e .stepped in
+        let n = still-long s in
+        let yes : cleared ≡ true = c ∙ rw (le-leb 8192 (length (w₁ .values)) (n .0), le-leb 8192 (length (w₁ .labels)) (n .1)) in
+        let vs = cv ∙ ap (λ (b : Bool). cond b (filled 8192 (pos 0) (w₁ .values)) (w₁ .values)) yes ∙ filled-same 8192 (pos 0) v (w₁ .values) (s .kept .values-past) in
+        let ls = cl ∙ ap (λ (b : Bool). cond b (filled 8192 0 (w₁ .labels)) (w₁ .labels)) yes ∙ filled-same 8192 0 l (w₁ .labels) (s .kept .labels-past) in
+        let long-is : enough (lent v l o t) ≡ true = enough-is ∙ rw (s .long, le-leb 2048 (length o) long) in
+        (λ i. record { answer = e .told-is i; left = record { values = vs i; labels = ls i; output = e .output-is i; trace = s .traced i } })
+        ∙ sym (begun-run given (lent v l o t) (record { long = long-is; accepted-is = s .accepted-is }))

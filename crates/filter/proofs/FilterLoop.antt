@@ -8,24 +8,21 @@ use native.Mathlib.Numerals.{add-one}
 use native.Mathlib.Omega.{arith}
 use lib.IntN.{pos}
 use lib.ListN.{length, getD, take, drop, length-append, length-drop}
-use borrow.Author.Tests.{ltb-true}
-use Rattle.cells.specs.promises.Cells.{flat, movesWithin}
 use Rattle.cells.specs.promises.Work.{Work, cellsIn, room, Kept}
 use Rattle.cells.specs.promises.Written.{CellsWritten}
 use Rattle.memory.specs.declared.LiveTable.{LiveTable}
 use Rattle.memory.specs.promises.Stack.{Inside}
 use Rattle.plan.specs.Filter.{holds, passes, passing}
-use Rattle.plan.specs.Operands.{operandValue}
-use Rattle.plan.specs.Table.{Cell, Row, blank, cellAt, rowsOf}
-use Rattle.plan.specs.Widths.{operandFits}
+use Rattle.plan.specs.Table.{Cell, Row, blank, cellAt, rowsOf, flat}
+use Rattle.plan.specs.Widths.{operandColumnExists}
 use Rattle.plan.specs.declared.Comparison.{Comparison}
 use Rattle.plan.specs.declared.Operand.{Operand}
-use Rattle.plan.specs.declared.Operand.the-variants.{Constant, Column}
-use Rattle.filter.specs.promises.Filtering.{operandAt}
+use Rattle.operand.specs.promises.Operands.{operandAt}
 use Rattle.cells.proofs.CellLaws.{movedIn, cells-moved, kept-none, kept-moved}
 use Rattle.cells.proofs.RowReads.{rowOf, row-cells, cell-of, value-of, flat-append, flat-length}
 use Rattle.cells.proofs.Rows.{rows-wide, rows-more}
 use Rattle.memory.proofs.LiveTables.{cells-room}
+use Rattle.operand.proofs.Laws.{operand-of}
 use Rattle.cells.proofs.Written.{Moves, down, nothing-written, read-past, then-copied}
 use Rattle.filter.proofs.RowLaws.{passing-append, passing-wide}
 
@@ -145,14 +142,12 @@ module _ {pass : Row → Bool} {top : LiveTable} {w₀ : Work} (i : Inside top (
 
 -- the row that the loop has come to: its test, and what follows by the answer
 module _ (column : ℕ) (comparison : Comparison) (operand : Operand) {top : LiveTable} {w₀ w : Work} {kept from to row : ℕ} (i : Inside top (length (w₀ .values)) (length (w₀ .labels)))
-    (s : Filtering (passes column comparison operand) top w₀ w kept from to row) (h : row < top .rows) (k : column < top .columns) (f : operandFits operand (top .columns) ≡ true) {answer : Bool}
+    (s : Filtering (passes column comparison operand) top w₀ w kept from to row) (h : row < top .rows) (k : column < top .columns) (f : operandColumnExists operand (top .columns) ≡ true) {answer : Bool}
     (e : answer ≡ holds comparison (getD (w .values) (from + column) (pos 0)) (operandAt (w .values) from operand)) where
   test-is : passes column comparison operand (rowOf (cellsIn w₀) (top .at) (top .columns) row) ≡ answer
-  test-is = ap₂ (holds comparison) (value-is i s h column k) (second operand f) ∙ sym e
-    where
-      second : (o : Operand) → operandFits o (top .columns) ≡ true → operandValue o (rowOf (cellsIn w₀) (top .at) (top .columns) row) ≡ operandAt (w .values) from o
-      second (Constant value) f = refl
-      second (Column other) f = value-is i s h other (ltb-true other (top .columns) f)
+  test-is =
+      ap₂ (holds comparison) (value-is i s h column k) (operand-of (rowOf (cellsIn w₀) (top .at) (top .columns) row) (w .values) from (top .columns) (value-is i s h) operand f)
+      ∙ sym e
 
   pub passed : answer ≡ true → Filtering (passes column comparison operand) top w₀ (movedIn from to (top .columns) w) (kept + 1) (from + top .columns) (to + top .columns) (row + 1)
   passed t = row-kept i s h (test-is ∙ t)

@@ -12,7 +12,6 @@ use Rattle.plan.specs.Masks.{inMask}
 use Rattle.cells.specs.declared.Place.{Place}
 use Rattle.cells.specs.declared.Place.the-variants as place
 use Rattle.cells.specs.promises.Search.{says, placeSays, notClearAt}
-use Rattle.cells.specs.promises.Cells.{flat}
 use Rattle.cells.specs.promises.Work.{Work, cellsIn}
 use Rattle.cells.specs.promises.Written.{CellsWritten}
 use Rattle.memory.specs.declared.LiveTable.{LiveTable}
@@ -23,9 +22,9 @@ use Rattle.memory.specs.promises.Stack.{Ready, stackIn, widthsTo, withTable, li
 use Rattle.memory.specs.promises.Steps.{verdict, fits, fitsIn, Done}
 use Rattle.plan.specs.Filter.{readBy, checkFilter, passes, passing, filtered}
 use Rattle.plan.specs.Steps.{check, make, tooMany}
-use Rattle.plan.specs.Table.{Table, grid}
+use Rattle.plan.specs.Table.{Table, grid, flat}
 use Rattle.plan.specs.Verdict.{refused, notClear}
-use Rattle.plan.specs.Widths.{enoughTables, operandFits, columnsExist, madeColumns}
+use Rattle.plan.specs.Widths.{enoughTables, operandColumnExists, columnsExist, madeColumns}
 use Rattle.plan.specs.declared.Comparison.{Comparison}
 use Rattle.plan.specs.declared.Operand.{Operand}
 use Rattle.plan.specs.declared.Step.{Step}
@@ -43,7 +42,7 @@ pub record FilterFits (column : ℕ) (operand : Operand) (values labels : ℕ) (
   pub here : Stands stack 0 top
   pub inside-is : Inside top values labels
   pub below : column < top .columns
-  pub operand-below : operandFits operand (top .columns) ≡ true
+  pub operand-below : operandColumnExists operand (top .columns) ≡ true
   pub width-is : width ≡ top .columns
 
 module _ (column : ℕ) (comparison : Comparison) (operand : Operand) where
@@ -57,7 +56,7 @@ module _ (column : ℕ) (comparison : Comparison) (operand : Operand) where
       let parts = fits-parts step tables values labels stack t in
       let here = stands stack 0 top (parts .0 .depth) (leb-true 1 (stack .depth) (parts .1)) e in
       let exist = and-eq-true-iff (columnsExist step tables (widthsTo stack (stack .depth))) _ .0 (parts .2) .0 in
-      let two = and-eq-true-iff (ltb column (getD (widthsTo stack (stack .depth)) 0 0)) (operandFits operand (getD (widthsTo stack (stack .depth)) 0 0)) .0 exist in
+      let two = and-eq-true-iff (ltb column (getD (widthsTo stack (stack .depth)) 0 0)) (operandColumnExists operand (getD (widthsTo stack (stack .depth)) 0 0)) .0 exist in
       record {
         is-ready = parts .0;
         here = here;

@@ -2,4 +2,3 @@
 mod FilterLoop
 mod FilterMeaning
 mod RowLaws
-mod Widths

@@ -6,8 +6,7 @@ use mathlib.Core.List.{List, [], _∷_, _++_}
 use native.Mathlib.Omega.{arith}
 use lib.ListN.{length}
 use Rattle.plan.specs.Filter.{passing}
-use Rattle.plan.specs.Sense.{Each}
-use Rattle.plan.specs.Table.{Row}
+use Rattle.plan.specs.Table.{Row, Each}
 use Rattle.cells.specs.promises.Cells.{Wide}
 
 pub passing-append : (pass : Row → Bool) (xs ys : List Row) → passing pass (xs ++ ys) ≡ passing pass xs ++ passing pass ys

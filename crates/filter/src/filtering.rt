@@ -2,7 +2,7 @@
 ghost use mathlib.Core.List.{List};
 ghost use mathlib.Core.Path.{_≡_};
 ghost use mathlib.Core.Bool.{true};
-ghost use Prim.Native.Nat.{ℕ, _+_, _-_, _<_};
+ghost use Prim.Native.Nat.{ℕ, _+_, _<_};
 ghost use lib.IntN.{pos};
 ghost use lib.ListN.{length, getD};
 ghost use Rattle.plan.specs.Masks.{inMask};
@@ -10,13 +10,13 @@ ghost use Rattle.plan.specs.declared.Comparison.{Comparison};
 ghost use Rattle.plan.specs.declared.Step.the-variants.{Filter};
 ghost use Rattle.plan.specs.Filter as spec;
 ghost use Rattle.plan.specs.Table.{Table};
-ghost use Rattle.plan.specs.Widths.{operandFits};
+ghost use Rattle.plan.specs.Widths.{operandColumnExists};
 ghost use Rattle.cells.specs.promises.Work.{work};
 ghost use Rattle.memory.specs.promises.Stack.{Inside};
 ghost use Rattle.memory.specs.promises.Steps.{Done};
+ghost use Rattle.operand.specs.promises.Operands.{operandAt};
 ghost use Rattle.filter.specs.promises.Filtering as here;
 use cells::Place;
-use kinds::Width;
 use memory::LiveTable;
 use memory::Refusal;
 use memory::Stack;
@@ -25,6 +25,7 @@ use memory::Stepped;
 use plan::Comparison;
 use plan::Operand;
 use plan::Step;
+use widths::Width;
 
 // Keeps the rows of the top table in which the comparison of a column with the operand holds.
 pub fn filter(
@@ -35,7 +36,8 @@ pub fn filter(
     comparison: Comparison,
     operand: Operand,
 ) -> Stepped
-    ensures { λ r. ⌜ ((tables : List Table) → Done (Filter column comparison operand) tables (work (now (values .entry)) (now (labels .entry))) stack r (work (now (values .exit)) (now (labels .exit)))) ⌝ }
+    ensures { λ r. ⌜ ((tables : List Table) → Done (Filter column comparison operand) tables
+        (work (now (values .entry)) (now (labels .entry))) stack r (work (now (values .exit)) (now (labels .exit)))) ⌝ }
 {
     let step = Step::Filter {
         column,
@@ -49,7 +51,7 @@ pub fn filter(
         };
     };
     let top = memory::live_table(stack, 0);
-    match cells::not_clear(
+    match search::not_clear(
         labels,
         top.at,
         top.rows,
@@ -76,7 +78,7 @@ pub fn filter(
 
 // The columns that are read, as a mask.
 fn read_by(column: usize, operand: Operand) -> u32
-    requires { ⌜ (column < 8) × (operandFits operand 8 ≡ true) ⌝ }
+    requires { ⌜ (column < 8) × (operandColumnExists operand 8 ≡ true) ⌝ }
     ensures { λ r. ⌜ ((c : ℕ) → c < 8 → inMask r c ≡ spec.readBy column operand c) ⌝ }
 {
     match operand {
@@ -95,8 +97,9 @@ fn filter_rows(
     operand: Operand,
 ) -> usize
     requires { ⌜ Inside top (length (now values)) (length (now labels)) ⌝ }
-    requires { ⌜ (column < top .columns) × (operandFits operand (top .columns) ≡ true) ⌝ }
-    ensures { λ r. ⌜ here.Filtered top column comparison operand (work (now (values .entry)) (now (labels .entry))) r (work (now (values .exit)) (now (labels .exit))) ⌝ }
+    requires { ⌜ (column < top .columns) × (operandColumnExists operand (top .columns) ≡ true) ⌝ }
+    ensures { λ r. ⌜ here.Filtered top column comparison operand (work (now (values .entry)) (now (labels .entry))) r
+        (work (now (values .exit)) (now (labels .exit))) ⌝ }
 {
     let mut kept = 0;
     let mut from = top.at;
@@ -104,7 +107,7 @@ fn filter_rows(
     let mut row = 0;
     while row < top.rows {
         if passes(values, from, column, comparison, operand) {
-            cells::move_cells(values, labels, from, to, top.columns);
+            moves::move_cells(values, labels, from, to, top.columns);
             to += top.columns;
             kept += 1;
         }
@@ -122,22 +125,12 @@ fn passes(
     comparison: Comparison,
     operand: Operand,
 ) -> bool
-    requires { ⌜ (from + column < length (now values)) × (operandFits operand (length (now values) - from) ≡ true) ⌝ }
-    ensures { λ r. ⌜ r ≡ spec.holds comparison (getD (now (values .entry)) (from + column) (pos 0)) (here.operandAt (now (values .entry)) from operand) ⌝ }
+    requires { ⌜ from + column < length (now values) ⌝ }
+    ensures { λ r. ⌜ r ≡ spec.holds comparison (getD (now (values .entry)) (from + column) (pos 0)) (operandAt (now (values .entry)) from operand) ⌝ }
 {
     let first = values[from + column];
-    let second = operand_at(values, from, operand);
+    let second = operand::operand_at(values, from, operand);
     holds(comparison, first, second)
-}
-
-fn operand_at(values: &[i64], from: usize, operand: Operand) -> i64
-    requires { ⌜ operandFits operand (length (now values) - from) ≡ true ⌝ }
-    ensures { λ r. ⌜ r ≡ here.operandAt (now (values .entry)) from operand ⌝ }
-{
-    match operand {
-        Operand::Constant(value) => value,
-        Operand::Column(column) => values[from + column],
-    }
 }
 
 fn holds(comparison: Comparison, a: i64, b: i64) -> bool

@@ -5,9 +5,9 @@ use mathlib.Core.List.{List, map}
 use native.Mathlib.Omega.{arith}
 use lib.IntN.{ℤ}
 use lib.ListN.{length, drop, length-map}
-use Rattle.accumulator.specs.promises.Accumulators.{single, withValues, valueOf}
+use Rattle.accumulator.specs.promises.Accumulators.{single, withValues, aggregateOf}
 use Rattle.accumulator.specs.declared.Accumulator.{Accumulator}
-use Rattle.group.specs.promises.Members.{rowOf, rowsFrom, later, members, valuesIn}
+use Rattle.group.specs.promises.Members.{rowOf, rowsFrom, later, members, columnValues}
 use Rattle.group.specs.declared.Grouping.{Grouping}
 use Rattle.plan.specs.Group.{aggregateValue}
 use Rattle.plan.specs.Table.{Cell, cellAt}
@@ -16,7 +16,7 @@ use Rattle.accumulator.proofs.Laws.{rows-from, value-is}
 use Rattle.cells.proofs.Rows.{rows-length}
 
 module _ (g : Grouping) (memory : List Cell) (leaders : List ℕ) (row : ℕ) (s : Accumulator) (few : g .rows ≤ 256) (h : row < g .rows)
-    (e : s ≡ withValues (single (cellAt (g .column) (rowOf g memory row) .value)) (valuesIn (g .column) (later g memory leaders row))) where
+    (e : s ≡ withValues (single (cellAt (g .column) (rowOf g memory row) .value)) (columnValues (g .column) (later g memory leaders row))) where
   few-later : length (later g memory leaders row) < g .rows
   few-later =
       let after = drop (g .at + (row + 1) * g .columns) memory in
@@ -26,7 +26,7 @@ module _ (g : Grouping) (memory : List Cell) (leaders : List ℕ) (row : ℕ) (s
   first = cellAt (g .column) (rowOf g memory row) .value
 
   others : List ℤ
-  others = valuesIn (g .column) (later g memory leaders row)
+  others = columnValues (g .column) (later g memory leaders row)
 
   as-many : length others ≡ length (later g memory leaders row)
   unfolding others
@@ -36,6 +36,6 @@ module _ (g : Grouping) (memory : List Cell) (leaders : List ℕ) (row : ℕ) (s
   unfolding first others
   size-is = ap (λ (s : Accumulator). s .rows) e ∙ rows-from (single first) others (omega (arith, as-many, few-later)) ∙ omega (arith, as-many)
 
-  pub aggregate-is : valueOf (g .aggregate) s ≡ aggregateValue (g .aggregate) (valuesIn (g .column) (members g memory leaders row))
+  pub aggregate-is : aggregateOf (g .aggregate) s ≡ aggregateValue (g .aggregate) (columnValues (g .column) (members g memory leaders row))
   unfolding first others
-  aggregate-is = ap (valueOf (g .aggregate)) e ∙ value-is first others (omega (arith, as-many, few-later)) (g .aggregate)
+  aggregate-is = ap (aggregateOf (g .aggregate)) e ∙ value-is first others (omega (arith, as-many, few-later)) (g .aggregate)

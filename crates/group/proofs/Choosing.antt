@@ -9,11 +9,12 @@ use lib.Dec.{eqb}
 use lib.ListN.{length, getD, drop}
 use lib.Seq.{drop-cons, drop-drop}
 use borrow.Author.Tests.{eq-eqb, ne-eqb}
-use Rattle.group.specs.promises.Members.{rowAt, rowsIn, rowsFrom, chosen, FirstLed, Chain}
+use Rattle.cells.specs.promises.Cells.{rowFrom}
+use Rattle.chains.specs.promises.Chains.{FirstLed, Chain}
+use Rattle.group.specs.promises.Members.{groupedRows, rowsFrom, chosen}
 use Rattle.group.specs.declared.Grouping.{Grouping}
-use Rattle.plan.specs.Sense.{Each}
-use Rattle.plan.specs.Table.{Cell, Row, rowsOf}
-use Rattle.group.proofs.Leading.{rows-next}
+use Rattle.plan.specs.Table.{Each, Cell, Row, rowsOf}
+use Rattle.chains.proofs.Leading.{rows-next}
 
 -- the numbers from one on
 pub numbers-next : (numbers : List ℕ) (i : ℕ) → i < length numbers → drop i numbers ≡ getD numbers i 0 ∷ drop (i + 1) numbers
@@ -22,7 +23,7 @@ numbers-next numbers i h = drop-cons numbers i 0 h ∙ ap (λ (n : ℕ). getD nu
 -- the members among the rows from one on, whose first cell stands at a place
 module _ (leaders : List ℕ) (row columns rows other place : ℕ) (memory : List Cell) (h : other < rows) (k : other < length leaders) where
   member-taken : getD leaders other 0 ≡ row → chosen row (drop other leaders) (rowsOf columns (rows - other) (drop place memory))
-      ≡ rowAt columns memory place ∷ chosen row (drop (other + 1) leaders) (rowsOf columns (rows - (other + 1)) (drop (place + columns) memory))
+      ≡ rowFrom columns memory place ∷ chosen row (drop (other + 1) leaders) (rowsOf columns (rows - (other + 1)) (drop (place + columns) memory))
   member-taken e = rw (rows-next columns rows other place memory h, numbers-next leaders other k, eq-eqb (getD leaders other 0) row e)
 
   member-passed : (getD leaders other 0 ≡ row → ⊥) → chosen row (drop other leaders) (rowsOf columns (rows - other) (drop place memory))
@@ -55,10 +56,10 @@ module _ {rows : ℕ} {leaders next : List ℕ} (chain : Chain rows leaders next
         let n : other + 1 + (getD next other 0 - (other + 1)) ≡ getD next other 0 = omega (arith, first .onward) in
         rw n at (skip (getD next other 0 - (other + 1)) (other + 1) (omega (arith, first .upto)) (λ o a b. first .none o a (omega arith)))
 
-    pub member-next : left other ≡ rowAt columns memory (at + other * columns) ∷ left (getD next other 0)
+    pub member-next : left other ≡ rowFrom columns memory (at + other * columns) ∷ left (getD next other 0)
     member-next =
         let p : at + other * columns + columns ≡ at + (other + 1) * columns = omega arith in
-        rw p at (member-taken leaders row columns rows other (at + other * columns) memory h (omega (arith, chain .long)) e) ∙ ap (λ (l : List Row). rowAt columns memory (at + other * columns) ∷ l) next-left
+        rw p at (member-taken leaders row columns rows other (at + other * columns) memory h (omega (arith, chain .long)) e) ∙ ap (λ (l : List Row). rowFrom columns memory (at + other * columns) ∷ l) next-left
 
 pub each-chosen : {A : Type 0} (P : A → Type 0) (number : ℕ) (numbers : List ℕ) (list : List A) → Each P list → Each P (chosen number numbers list)
 each-chosen P number numbers [] e = tt
@@ -90,7 +91,7 @@ rows-drop columns (suc rows) (suc n) cells =
     let m : columns + n * columns ≡ suc n * columns = omega arith in
     rows-drop columns rows n (drop columns cells) ∙ ap₂ (rowsOf columns) (sym e) (drop-drop (n * columns) columns cells ∙ ap (λ (k : ℕ). drop k cells) m)
 
-pub rows-left : (g : Grouping) (memory : List Cell) (row : ℕ) → rowsFrom g memory row ≡ drop row (rowsIn g memory)
+pub rows-left : (g : Grouping) (memory : List Cell) (row : ℕ) → rowsFrom g memory row ≡ drop row (groupedRows g memory)
 rows-left g memory row = sym (rows-drop (g .columns) (g .rows) row (drop (g .at) memory) ∙ ap (rowsOf (g .columns) (g .rows - row)) (drop-drop (row * g .columns) (g .at) memory))
 
 pub each-drop : {A : Type 0} (P : A → Type 0) (n : ℕ) (list : List A) → Each P list → Each P (drop n list)

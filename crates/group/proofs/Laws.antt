@@ -1,13 +1,13 @@
 -- The laws of GROUP, for the evaluator to cite. Assumes nothing.
 use Prim.Native.Nat.{ℕ}
 use mathlib.Core.Path.{_≡_}
-use mathlib.Core.Bool.{true, false, cond}
+use mathlib.Core.Bool.{true, cond}
 use mathlib.Core.List.{List, [], _∷_, _++_, map}
 use lib.ListN.{length}
 use Rattle.cells.specs.promises.Labelled.{Formed, LabelledRow, Labelled}
 use Rattle.cells.specs.promises.Work.{Work}
 use Rattle.group.specs.promises.Fits.{groupFits}
-use Rattle.label.specs.WellFormed.{wellFormed}
+use Rattle.label_words.specs.WellFormed.{wellFormed}
 use Rattle.memory.specs.declared.Stack.{Stack}
 use Rattle.memory.specs.promises.Stack.{stackIn}
 use Rattle.memory.specs.promises.Steps.{fitsIn}
@@ -15,13 +15,12 @@ use Rattle.plan.specs.Filter.{passing}
 use Rattle.plan.specs.Group.{sameKeys, anySame, groupsAfter, composedAfter, groupRow, grouped}
 use Rattle.plan.specs.Keep.{keptCells}
 use Rattle.plan.specs.Numbers.{aggregateCode}
-use Rattle.plan.specs.Sense.{Each}
-use Rattle.plan.specs.Table.{Row, Table, cellAt}
+use Rattle.plan.specs.Table.{Row, Table, cellAt, Each}
 use Rattle.plan.specs.declared.Aggregate.{Aggregate}
 use Rattle.plan.specs.declared.Step.the-variants.{Group}
 use Rattle.cells.proofs.LabelledTables.{cell-formed, kept-formed, passing-formed}
 use Rattle.group.proofs.Labels.{composed-formed}
-use Rattle.label.proofs.Laws.{zero-well-formed}
+use Rattle.label_laws.proofs.Laws.{zero-well-formed}
 use Rattle.memory.proofs.TopLabels.{top-formed}
 use Rattle.plan.proofs.SenseShape.{each-append, each-cond, each-map}
 

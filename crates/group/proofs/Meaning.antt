@@ -1,41 +1,44 @@
 -- GROUP in work memory and its meaning. Assumes nothing.
-use Prim.Native.Nat.{ℕ, suc, _+_, _*_, _≤_, _<_}
+use Prim.Native.Nat.{ℕ, suc, _+_, _≤_, _<_}
 use mathlib.Core.Path.{_≡_, refl, sym, ap, _∙_}
-use mathlib.Core.Bool.{Bool, true, false, _&&_, and-eq-true-iff}
+use mathlib.Core.Bool.{Bool, true, false, cond, and-eq-true-iff}
 use mathlib.Core.List.{List, [], _∷_, map}
-use native.Mathlib.Omega.{arith}
 use lib.Dec.{leb, ltb}
 use lib.ListN.{length, getD}
 use Prim.Native.Nat.{_^_}
 use borrow.Author.Tests.{leb-true, ltb-true, lt-ltb}
 use Rattle.cells.specs.promises.Labelled.{columnFormed, columnFormedAt}
-use Rattle.cells.specs.promises.Search.{says, tableWithin}
+use Rattle.cells.specs.promises.Search.{says, unfit}
 use Rattle.cells.specs.promises.Work.{Work, cellsIn}
 use Rattle.group.specs.promises.Fits.{groupFits}
 use Rattle.group.specs.promises.Made.{Source, groupRows, Replaced}
-use Rattle.group.specs.promises.Members.{groupingOf, Allowed, forbidsAt, rowsIn}
+use Rattle.group.specs.promises.Members.{groupingOf, Allowed, groupedRows}
+use Rattle.group_refusal.specs.promises.Refusals.{forbidsAt, groupSays}
 use Rattle.group.specs.declared.Grouping.{Grouping}
-use Rattle.label.specs.Discharge.{forbidsA}
-use Rattle.label.specs.WellFormed.{wellFormed}
+use Rattle.label_discharge.specs.Discharge.{forbidsA}
+use Rattle.label_words.specs.WellFormed.{wellFormed}
 use Rattle.plan.specs.Masks.{inMask}
 use Rattle.memory.specs.declared.LiveTable.{LiveTable}
-use Rattle.memory.specs.declared.Refusal.{Refusal}
 use Rattle.memory.specs.declared.Stack.{Stack}
-use Rattle.memory.specs.declared.StepAnswer.the-variants.{Made, Refused}
-use Rattle.memory.specs.promises.Stack.{Ready, stackIn, topFormed, widthsTo, withTable, liveTable, labelsIn, Inside}
-use Rattle.memory.specs.promises.Steps.{refusalSays, verdict, fits, fitsIn, DoneWhere}
+use Rattle.memory.specs.declared.StepAnswer.{StepAnswer}
+use Rattle.memory.specs.declared.StepAnswer.the-variants.{Made}
+use Rattle.memory.specs.promises.Stack.{Ready, stackIn, widthsTo, withTable, liveTable, labelsIn, Inside}
+use Rattle.memory.specs.promises.Steps.{stepSays, verdict, fits, fitsIn, DoneWhere}
 use Rattle.plan.specs.Group.{checkGroup, grouped}
 use Rattle.plan.specs.Keep.{keptCount}
-use Rattle.plan.specs.Sense.{Each}
 use Rattle.plan.specs.Steps.{check, make, tooMany}
-use Rattle.plan.specs.Table.{Row, Table, labelsOf, grid, top}
+use Rattle.plan.specs.Table.{Row, Table, labelsOf, grid, top, Each}
 use Rattle.plan.specs.Verdict.{Verdict, fine, refused, orElse, refuseIf, firstRow, notClear}
 use Rattle.plan.specs.Widths.{enoughTables, columnsExist, madeColumns}
 use Rattle.plan.specs.declared.Aggregate.{Aggregate}
 use Rattle.plan.specs.declared.Step.{Step}
 use Rattle.plan.specs.declared.Step.the-variants.{Group}
 use Rattle.cells.proofs.LabelledTables.{label-of}
-use Rattle.memory.proofs.Finish.{unchanged-done, rows-done, says-is, or-nothing}
+use Rattle.memory.proofs.Finish.{answered-done, rows-done, fine-parts, or-nothing}
+use Rattle.memory.proofs.FormedTables.{formed-table}
+use Rattle.memory.proofs.StepAnswer.{the-type}
+use denote.Enum.Declared.{tagOf}
+use types.Run.{OneOf}
 use Rattle.memory.proofs.LiveTables.{fits-parts, Stands, stands, inside, at-is, table-within, grid-is, stack-top, top-width}
 
 -- ---- labels that an aggregate may be made of
@@ -105,7 +108,7 @@ module _ (keys : ℕ) (aggregate : Aggregate) (column : ℕ) where
     }
 
     -- all that is asked, as the code tests it
-    pub fits-is : groupFits keys aggregate column tables w stack ≡ columnFormedAt (w .labels) (table .at) (table .rows) (table .columns) column
+    fits-is : groupFits keys aggregate column tables w stack ≡ columnFormedAt (w .labels) (table .at) (table .rows) (table .columns) column
     fits-is =
         rw (t, table-within (f .inside-is), lt-ltb column (table .columns) (f .below))
         (ap (λ (s : List Table). columnFormed column (grid (top s))) (stack-top w (f .here)) ∙ ap (columnFormed column) (grid-is w (f .inside-is)))
@@ -118,32 +121,27 @@ module _ (keys : ℕ) (aggregate : Aggregate) (column : ℕ) where
     unfolding make grouped
     made-is = rw (f .width-is) (ap (make step tables) (stack-top w (f .here)))
 
-    pub allowed : columnFormed column (labelsIn (w .labels) table) ≡ true → says fine ≡ says (checkGroup keys column (labelsIn (w .labels) table))
-        → Each (Allowed column) (rowsIn (groupingOf table keys aggregate column width) (cellsIn w))
-    unfolding checkGroup
-    allowed formed e =
-        let labels = labelsIn (w .labels) table in
-        let same = grid-is w (f .inside-is) in
-        let none = first-fine (notClear (inMask keys) 31 0 labels) (firstRow (forbidsAt column) 0 labels) (sym (says-is e)) .1 in
-        allowed-rows column 0 (rowsIn g (cellsIn w)) (rw same formed) (rw same none)
+    -- the labels refuse it, or are none
+    pub refused-group : (answer : StepAnswer) → OneOf (1 ∷ 2 ∷ []) (tagOf the-type answer) → stepSays answer ≡ groupSays (w .labels) table keys column
+        → DoneWhere (groupFits keys aggregate column tables w stack) step tables w stack (record { answer = answer; stack = stack }) w
+    refused-group answer k e = answered-done step tables w stack answer k verdict-is (e ∙ ap (λ (b : Bool). cond b (says (checkGroup keys column (labelsIn (w .labels) table))) unfit) (sym fits-is))
 
-    module _ {fit : Bool} (u : fit ≡ true) where
-      pub refused-group : (refusal : Refusal) → says (refusalSays refusal) ≡ says (checkGroup keys column (labelsIn (w .labels) table))
-          → DoneWhere fit step tables w stack (record { answer = Refused refusal; stack = stack }) w
-      refused-group refusal e = unchanged-done step tables w stack u refusal (verdict-is ∙ sym (says-is e))
+    module _ (e : says fine ≡ groupSays (w .labels) table keys column) where
+      pub allowed : Each (Allowed column) (groupedRows (groupingOf table keys aggregate column width) (cellsIn w))
+      unfolding checkGroup
+      allowed =
+          let p = fine-parts _ e in
+          let same = grid-is w (f .inside-is) in
+          let none = first-fine (notClear (inMask keys) 31 0 (labelsIn (w .labels) table)) (firstRow (forbidsAt column) 0 (labelsIn (w .labels) table)) (p .1) .1 in
+          allowed-rows column 0 (groupedRows g (cellsIn w)) (rw same (formed-table (w .labels) table column (p .0) .formed)) (rw same none)
 
-      pub made-group : {after : Work} {count : ℕ} → says fine ≡ says (checkGroup keys column (labelsIn (w .labels) table))
-          → Replaced (groupingOf table keys aggregate column width) w count after
-          → DoneWhere fit step tables w stack (record { answer = Made; stack = withTable stack (table .slot) width count }) after
-      made-group {after} {count} e r =
-          rows-done step tables w stack u (table .slot) width count (groupRows g (cellsIn w)) after (f .is-ready)
-          (verdict-is ∙ sym (says-is e)) (f .here .low) (f .here .depth-is) made-is (f .narrow) (r .few) (r .counted) (at-is (f .here)) (r .rows)
+      pub made-group : {after : Work} {count : ℕ} → Replaced (groupingOf table keys aggregate column width) w count after
+          → DoneWhere (groupFits keys aggregate column tables w stack) step tables w stack (record { answer = Made; stack = withTable stack (table .slot) width count }) after
+      made-group {after} {count} r =
+          let p = fine-parts _ e in
+          rows-done step tables w stack (fits-is ∙ p .0) (table .slot) width count (groupRows g (cellsIn w)) after (f .is-ready)
+          (verdict-is ∙ p .1) (f .here .low) (f .here .depth-is) made-is (f .narrow) (r .few) (r .counted) (at-is (f .here)) (r .rows)
 
 -- arguments that do not fit
 pub misfit-first : (keys : ℕ) (aggregate : Aggregate) (column : ℕ) (tables : List Table) (w : Work) (stack : Stack) → fitsIn (Group keys aggregate column) tables w stack ≡ false → groupFits keys aggregate column tables w stack ≡ false
 misfit-first keys aggregate column tables w stack e = rw e
-
--- labels that were tested
-pub formed-parts : (labels : List ℕ) (table : LiveTable) (column : ℕ) → columnFormedAt labels (table .at) (table .rows) (table .columns) column ≡ true → columnFormed column (labelsIn labels table) ≡ true
-formed-parts labels table column e =
-    and-eq-true-iff (tableWithin (table .at) (table .rows) (table .columns) (length labels) && ltb column (table .columns)) (columnFormed column (labelsIn labels table)) .0 e .1

@@ -2,10 +2,10 @@
 use Prim.Native.Nat.{ℕ, _+_, _*_, _≤_, _<_}
 use native.Mathlib.Omega.{arith}
 use Rattle.cells.proofs.Columns.{Walking, row-room}
-use Rattle.group.specs.promises.Members.{Inside}
+use Rattle.group.specs.promises.Members.{ColumnInside}
 use Rattle.group.specs.declared.Grouping.{Grouping}
 
-pub walk-from : (g : Grouping) (length row : ℕ) → Inside g length → row ≤ g .rows → Walking length (g .at) (g .rows) (g .columns) (g .column) row (g .at + row * g .columns)
+pub walk-from : (g : Grouping) (length row : ℕ) → ColumnInside g length → row ≤ g .rows → Walking length (g .at) (g .rows) (g .columns) (g .column) row (g .at + row * g .columns)
 walk-from g length row i h = record { few-rows = i .few-rows; has-column = i .has-column; within = i .within; upto = h; here = omega arith }
 
 -- the walk goes to another row

@@ -1,9 +1,7 @@
 // GROUP over work memory. The rows of the groups are made in the last slot, above the table that is grouped, and then copied down over it.
 mod labelling;
-mod leader;
 mod made;
 mod member;
-mod refusal;
 mod step;
 
 use plan::Aggregate;

@@ -1,48 +1,42 @@
 // The rows of the groups, made one after the other in the last slot.
-ghost use mathlib.Core.Path.{_≡_};
-ghost use mathlib.Core.List.{List, _∷_, [], _++_};
-ghost use Prim.Native.Nat.{ℕ, _+_, _≤_, _<_};
-ghost use lib.ListN.{length, getD};
-ghost use Rattle.plan.specs.Keep.{keptCells};
-ghost use Rattle.plan.specs.Sense.{Each};
+ghost use Prim.Native.Nat.{_+_, _≤_, _<_};
+ghost use lib.ListN.{length};
+ghost use Rattle.chains.specs.promises.Chains.{Onward};
+ghost use Rattle.plan.specs.Table.{Each};
 ghost use Rattle.cells.specs.promises.Work.{work, cellsIn, room};
-ghost use Rattle.cells.specs.promises.Written.{Put};
 ghost use Rattle.memory.specs.promises.Stack.{lastSlot};
 ghost use Rattle.group.specs.promises.Made as made;
 ghost use Rattle.group.specs.promises.Members as spec;
 use crate::Grouping;
 use crate::labelling::group_label;
-use crate::leader::chain;
-use crate::leader::leaders;
 use crate::member::group_values;
 use memory::LAST_SLOT;
 
 // Puts the rows of all groups in the place of the table, and answers how many there are.
 pub fn replace(values: &mut [i64], labels: &mut [u32], g: Grouping) -> usize
     requires { ⌜ made.Source g (length (now values)) (length (now labels)) ⌝ }
-    requires { ⌜ Each (spec.Allowed (g .column)) (spec.rowsIn g (cellsIn (work (now values) (now labels)))) ⌝ }
+    requires { ⌜ Each (spec.Allowed (g .column)) (spec.groupedRows g (cellsIn (work (now values) (now labels)))) ⌝ }
     ensures { λ r. ⌜ made.Replaced g (work (now (values .entry)) (now (labels .entry))) r (work (now (values .exit)) (now (labels .exit))) ⌝ }
 {
     let count = write_groups(values, labels, g);
-    cells::move_cells(values, labels, LAST_SLOT, g.at, count * g.width);
+    moves::move_cells(values, labels, LAST_SLOT, g.at, count * g.width);
     count
 }
 
 // Makes the rows of all groups, in the order of their first rows, and answers how many there are.
 fn write_groups(values: &mut [i64], labels: &mut [u32], g: Grouping) -> usize
     requires { ⌜ made.Source g (length (now values)) (length (now labels)) ⌝ }
-    requires { ⌜ Each (spec.Allowed (g .column)) (spec.rowsIn g (cellsIn (work (now values) (now labels)))) ⌝ }
+    requires { ⌜ Each (spec.Allowed (g .column)) (spec.groupedRows g (cellsIn (work (now values) (now labels)))) ⌝ }
     ensures { λ r. ⌜ made.AllMade g (work (now (values .entry)) (now (labels .entry))) r (work (now (values .exit)) (now (labels .exit))) ⌝ }
 {
-    let found = leaders(values, g);
     let rows = g.rows;
-    let next = chain(&found, rows);
+    let chains = chains::find(values, g.at, rows, g.columns, g.keys);
     let mut count = 0;
     let mut to = LAST_SLOT;
     let mut row = 0;
     while row < rows {
-        if found[row] == row {
-            write_group(values, labels, &next, g, row, to);
+        if chains.first[row] == row {
+            write_group(values, labels, &chains.next, g, row, to);
             to += g.width;
             count += 1;
         }
@@ -61,9 +55,10 @@ fn write_group(
     to: usize,
 )
     requires { ⌜ made.Source g (length (now values)) (length (now labels)) ⌝ }
-    requires { ⌜ Each (spec.Allowed (g .column)) (spec.rowsIn g (cellsIn (work (now values) (now labels)))) ⌝ }
-    requires { ⌜ (row < g .rows) × spec.Onward (g .rows) (now next) × (lastSlot ≤ to) × (to + g .width ≤ room) ⌝ }
-    ensures { λ r. ⌜ ((leaders : List ℕ) → spec.Chain (g .rows) leaders (now (next .entry)) → getD leaders row 0 ≡ row → Put to (made.rowOfGroup g (spec.members g (cellsIn (work (now (values .entry)) (now (labels .entry)))) leaders row) .cells) (work (now (values .entry)) (now (labels .entry))) (work (now (values .exit)) (now (labels .exit)))) ⌝ }
+    requires { ⌜ Each (spec.Allowed (g .column)) (spec.groupedRows g (cellsIn (work (now values) (now labels)))) ⌝ }
+    requires { ⌜ (row < g .rows) × Onward (g .rows) (now next) × (lastSlot ≤ to) × (to + g .width ≤ room) ⌝ }
+    ensures { λ r. ⌜ made.GroupWritten g (now (next .entry)) row to (work (now (values .entry)) (now (labels .entry)))
+        (work (now (values .exit)) (now (labels .exit))) ⌝ }
 {
     let all = group_values(values, next, g, row);
     let label = group_label(labels, next, g, row, all.rows);
@@ -84,7 +79,8 @@ fn write_row(
 )
     requires { ⌜ made.Source g (length (now values)) (length (now labels)) ⌝ }
     requires { ⌜ (row < g .rows) × (lastSlot ≤ to) × (to + g .width ≤ room) ⌝ }
-    ensures { λ r. ⌜ Put to (keptCells (g .keys) (g .columns) (spec.rowOf g (cellsIn (work (now (values .entry)) (now (labels .entry)))) row) ++ ((record { value = value; label = label }) ∷ [])) (work (now (values .entry)) (now (labels .entry))) (work (now (values .exit)) (now (labels .exit))) ⌝ }
+    ensures { λ r. ⌜ made.RowWritten g row to (record { value = value; label = label })
+        (work (now (values .entry)) (now (labels .entry))) (work (now (values .exit)) (now (labels .exit))) ⌝ }
 {
     let columns = g.columns;
     let keys = g.keys;

@@ -9,14 +9,13 @@ ghost use Rattle.group.specs.promises.Fits.{groupFits};
 ghost use Rattle.group.specs.promises.Members.{groupingOf};
 use crate::Grouping;
 use crate::made::replace;
-use crate::refusal::refusal;
-use kinds::Width;
 use memory::LiveTable;
 use memory::Stack;
 use memory::StepAnswer;
 use memory::Stepped;
 use plan::Aggregate;
 use plan::Step;
+use widths::Width;
 
 // Groups the rows of the last table pushed by the columns of a mask, and puts the groups, each its keys and the aggregate of a column,
 // in its place. Labels of the column that are not well-formed do not fit.
@@ -28,7 +27,10 @@ pub fn group(
     aggregate: Aggregate,
     column: usize,
 ) -> Stepped
-    ensures { λ r. ⌜ ((tables : List Table) → DoneWhere (groupFits keys aggregate column tables (work (now (values .entry)) (now (labels .entry))) stack) (Group keys aggregate column) tables (work (now (values .entry)) (now (labels .entry))) stack r (work (now (values .exit)) (now (labels .exit)))) ⌝ }
+    ensures { λ r. ⌜ ((tables : List Table) → DoneWhere
+        (groupFits keys aggregate column tables (work (now (values .entry)) (now (labels .entry))) stack)
+        (Group keys aggregate column) tables (work (now (values .entry)) (now (labels .entry))) stack r
+        (work (now (values .exit)) (now (labels .exit)))) ⌝ }
 {
     let step = Step::Group {
         keys,
@@ -42,29 +44,18 @@ pub fn group(
         };
     };
     let top = memory::live_table(stack, 0);
-    if !cells::column_formed(labels, top.at, top.rows, top.columns, column) {
+    let answer = group_refusal::refusal(labels, top, keys, aggregate, column);
+    let StepAnswer::Made = answer else {
         return Stepped {
-            answer: StepAnswer::DoesNotFit,
+            answer: answer,
             stack: stack,
         };
-    }
+    };
     let g = grouping(top, keys, aggregate, column, columns);
-    match refusal(labels, g) {
-        StepAnswer::Refused(refusal) => Stepped {
-            answer: StepAnswer::Refused(refusal),
-            stack: stack,
-        },
-        StepAnswer::DoesNotFit => Stepped {
-            answer: StepAnswer::DoesNotFit,
-            stack: stack,
-        },
-        StepAnswer::Made => {
-            let count = replace(values, labels, g);
-            Stepped {
-                answer: StepAnswer::Made,
-                stack: memory::with_table(stack, top.slot, columns, count),
-            }
-        }
+    let count = replace(values, labels, g);
+    Stepped {
+        answer: StepAnswer::Made,
+        stack: memory::with_table(stack, top.slot, columns, count),
     }
 }
 

@@ -8,31 +8,30 @@ use native.Mathlib.Omega.{arith}
 use lib.Dec.{ltb}
 use lib.ListN.{length, take}
 use borrow.Author.Tests.{lt-ltb, le-ltb, ltb-true, ltb-false}
-use Rattle.cells.specs.declared.Place.the-variants.{At, Nowhere, DoesNotFit}
-use Rattle.cells.specs.promises.Cells.{flat, Wide}
+use Rattle.cells.specs.declared.Place.the-variants.{At, Nowhere}
+use Rattle.cells.specs.promises.Cells.{Wide}
 use Rattle.cells.specs.promises.Search.{says, placeSays}
 use Rattle.cells.specs.promises.Work.{Work, cellsIn, Kept}
 use Rattle.cells.specs.promises.Written.{Put}
-use Rattle.join.specs.declared.Side.{Side}
+use Rattle.pairs.specs.declared.Side.{Side}
 use Rattle.join.specs.promises.Ends.{sideOf, Finished}
-use Rattle.join.specs.promises.Pairs.{Sides, Grown, width, rowsIn, labelsIn, allRows}
+use Rattle.pairs.specs.promises.Pairs.{Sides, Grown, width, sideRows, sideLabels, allRows}
 use Rattle.memory.specs.declared.LiveTable.{LiveTable}
 use Rattle.memory.specs.declared.Refusal.the-variants.{NotClear, TooMany}
 use Rattle.memory.specs.declared.Stack.{Stack}
 use Rattle.memory.specs.declared.StepAnswer.the-variants.{Made, Refused}
 use Rattle.memory.specs.declared.Stepped.{Stepped}
-use Rattle.memory.specs.promises.Stack.{lastSlot, stackIn, withTable, RowsAt}
-use Rattle.memory.specs.promises.Steps.{verdict, fitsIn, leavesRows, Done}
+use Rattle.memory.specs.promises.Stack.{lastSlot, withTable, RowsAt}
+use Rattle.memory.specs.promises.Steps.{fitsIn, leavesRows, Done}
 use Rattle.plan.specs.Join.{checkJoin}
-use Rattle.plan.specs.Sense.{Each}
-use Rattle.plan.specs.Table.{Cell, Row, Table}
-use Rattle.plan.specs.Verdict.{Verdict, fine, refused, orElse, refuseIf}
+use Rattle.plan.specs.Table.{Row, Table, flat, Each}
+use Rattle.plan.specs.Verdict.{Verdict, fine, refused}
 use Rattle.plan.specs.declared.Step.the-variants.{Join}
 use Rattle.cells.proofs.CellLaws.{movedIn, values-front, labels-front}
 use Rattle.cells.proofs.RowReads.{flat-length}
 use Rattle.cells.proofs.Written.{Moves}
-use Rattle.join.proofs.Growing.{cells-room, rows-in-wide}
-use Rattle.join.proofs.Joining.{rows-joined-wide}
+use Rattle.pairs.proofs.Growing.{cells-room, rows-in-wide}
+use Rattle.pairs.proofs.Joining.{rows-joined-wide}
 use Rattle.join.proofs.Meaning.{JoinFits, join-verdict, made-is}
 use Rattle.memory.proofs.Finish.{says-is, unchanged-done, refused-done, rows-done}
 use Rattle.memory.proofs.LiveTables.{at-is}
@@ -46,7 +45,7 @@ module _ (stack : Stack) (index : ℕ) {left right : Side} {w : Work} (sides : S
 
   all-wide : Each (Wide (width left right)) (allRows (cellsIn w) left right)
   all-wide =
-      rows-joined-wide (left .key) (right .key) (left .columns) (right .columns) (sides .left-key) (sides .right-key) (rowsIn (cellsIn w) left) (rowsIn (cellsIn w) right)
+      rows-joined-wide (left .key) (right .key) (left .columns) (right .columns) (sides .left-key) (sides .right-key) (sideRows (cellsIn w) left) (sideRows (cellsIn w) right)
       (rows-in-wide w sides left (sides .left-below)) (rows-in-wide w sides right (sides .right-below))
 
   module _ (h : count ≤ 256) where
@@ -90,7 +89,7 @@ module _ (stack : Stack) (index : ℕ) {left right : Side} {w : Work} (sides : S
 module _ (left right : ℕ) (tables : List Table) (w : Work) (stack : Stack) {lower upper : LiveTable} {columns : ℕ} (t : fitsIn (Join left right) tables w stack ≡ true)
     (f : JoinFits left right (length (w .values)) (length (w .labels)) stack lower upper columns) where
   abbrev keys : Verdict
-  keys = checkJoin left right (labelsIn (w .labels) (sideOf lower left)) (labelsIn (w .labels) (sideOf upper right))
+  keys = checkJoin left right (sideLabels (w .labels) (sideOf lower left)) (sideLabels (w .labels) (sideOf upper right))
 
   abbrev rows : List Row
   rows = allRows (cellsIn w) (sideOf lower left) (sideOf upper right)

@@ -1,16 +1,15 @@
 -- The test of the keys' labels. Assumes nothing.
 use Prim.Native.Nat.{ℕ, zero, suc, _+_, _*_, _%_, _^_, _≤_, _<_}
-use mathlib.Core.Path.{_≡_, refl, sym, ap, _∙_}
-use mathlib.Core.Bool.{Bool, true, false, not, _&&_, Bool·beq, and-eq-true-iff}
+use mathlib.Core.Path.{_≡_, refl, ap, _∙_}
+use mathlib.Core.Bool.{Bool, true, false, not, _&&_}
 use mathlib.Core.List.{List, [], _∷_}
 use mathlib.Core.Logic.{_⊎_, inl, inr, ⊎-elim}
-use native.Mathlib.Nat.{le-of-suc-le-suc, not-suc-le-zero}
 use native.Mathlib.Omega.{arith}
 use lib.Dec.{eqb}
 use lib.ListN.{length, take, drop}
 use borrow.Author.Tests.{le-leb}
-use Rattle.join.specs.promises.Pairs.{labelsIn}
-use Rattle.join.specs.declared.Side.{Side}
+use Rattle.pairs.specs.promises.Pairs.{sideLabels}
+use Rattle.pairs.specs.declared.Side.{Side}
 use Rattle.plan.specs.Masks.{inMask}
 use Rattle.cells.specs.promises.Cells.{gridOf}
 use Rattle.cells.specs.promises.Search.{placeSays, notClearAt, Reply, says}
@@ -30,7 +29,7 @@ use types.Run.{OneOf, miss}
 
 pub key-search : (labels : List ℕ) (side : Side) (first : ℕ) (p : Place) → side .rows ≤ 256 → side .columns ≤ 8 → side .key < side .columns → side .at + side .rows * side .columns ≤ length labels
     → placeSays 31 first p ≡ notClearAt 31 first labels (side .at) (side .rows) (side .columns) (1 * 2 ^ side .key % 2 ^ 32)
-    → placeSays 31 first p ≡ says (notClear (λ c. eqb c (side .key)) 31 first (labelsIn labels side))
+    → placeSays 31 first p ≡ says (notClear (λ c. eqb c (side .key)) 31 first (sideLabels labels side))
 key-search labels side first p r c k h e =
     e ∙ rw (le-leb (side .rows) 256 r, le-leb (side .columns) 8 c, le-within (side .at) (side .rows * side .columns) (length labels) h)
     (ap says (search-same (inMask (1 * 2 ^ side .key % 2 ^ 32)) (λ c. eqb c (side .key)) (λ i l. one-column (side .key) i (omega arith) l) 31 (side .columns) (side .rows) first (drop (side .at) labels) c))

@@ -1,16 +1,16 @@
 -- The join in work memory and its meaning. Assumes nothing.
-use Prim.Native.Nat.{ℕ, _+_, _-_, _≤_, _<_}
-use mathlib.Core.Path.{_≡_, sym, ap, ap₂, _∙_}
+use Prim.Native.Nat.{ℕ, _+_, _-_}
+use mathlib.Core.Path.{_≡_, ap, ap₂, _∙_}
 use mathlib.Core.Bool.{true, _&&_, and-eq-true-iff}
 use mathlib.Core.List.{List, map}
 use native.Mathlib.Omega.{arith}
 use lib.Dec.{leb, ltb}
-use lib.ListN.{length, getD}
+use lib.ListN.{length}
 use borrow.Author.Tests.{leb-true, ltb-true}
 use Rattle.cells.specs.promises.Work.{Work, cellsIn}
-use Rattle.join.specs.declared.Side.{Side}
+use Rattle.pairs.specs.declared.Side.{Side}
 use Rattle.join.specs.promises.Ends.{sideOf}
-use Rattle.join.specs.promises.Pairs.{Sides, width, labelsIn, allRows}
+use Rattle.pairs.specs.promises.Pairs.{Sides, width, sideLabels, allRows}
 use Rattle.memory.specs.declared.LiveTable.{LiveTable}
 use Rattle.memory.specs.declared.Stack.{Stack}
 use Rattle.memory.specs.promises.Stack.{Ready, stackIn, widthsTo, liveTable, Inside}
@@ -94,7 +94,7 @@ module _ (left right : ℕ) (tables : List Table) (w : Work) (stack : Stack) {lo
   made-is = ap (make (Join left right) tables) (stack-two w (f .above) (f .below))
 
   pub join-verdict : verdict (Join left right) tables (stackIn w stack)
-      ≡ orElse (checkJoin left right (labelsIn (w .labels) l) (labelsIn (w .labels) r)) (refuseIf (ltb 256 (length (allRows (cellsIn w) l r))) 34 256 0)
+      ≡ orElse (checkJoin left right (sideLabels (w .labels) l) (sideLabels (w .labels) r)) (refuseIf (ltb 256 (length (allRows (cellsIn w) l r))) 34 256 0)
   unfolding check tooMany
   join-verdict =
       ap₂ orElse

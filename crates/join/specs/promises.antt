@@ -1,3 +1,2 @@
 -- What the functions of this crate promise one another.
-pub mod Pairs
 pub mod Ends

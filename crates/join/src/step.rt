@@ -7,19 +7,19 @@ ghost use Rattle.memory.specs.promises.Steps.{Done};
 ghost use Rattle.plan.specs.Table.{Table};
 ghost use Rattle.plan.specs.declared.Step.the-variants.{Join};
 ghost use Rattle.join.specs.promises.Ends as ends;
-ghost use Rattle.join.specs.promises.Pairs as spec;
-use crate::Side;
+ghost use Rattle.pairs.specs.promises.Pairs as spec;
 use crate::keys::unclear_key;
-use crate::pairs::join_rows;
 use cells::Place;
-use kinds::Width;
 use memory::LAST_SLOT;
 use memory::LiveTable;
 use memory::Refusal;
 use memory::Stack;
 use memory::StepAnswer;
 use memory::Stepped;
+use pairs::Side;
+use pairs::join_rows;
 use plan::Step;
+use widths::Width;
 
 // Joins the two top tables: each left row with each right row whose key it matches.
 pub fn join(
@@ -29,7 +29,8 @@ pub fn join(
     left: usize,
     right: usize,
 ) -> Stepped
-    ensures { λ r. ⌜ ((tables : List Table) → Done (Join left right) tables (work (now (values .entry)) (now (labels .entry))) stack r (work (now (values .exit)) (now (labels .exit)))) ⌝ }
+    ensures { λ r. ⌜ ((tables : List Table) → Done (Join left right) tables (work (now (values .entry)) (now (labels .entry)))
+        stack r (work (now (values .exit)) (now (labels .exit)))) ⌝ }
 {
     let step = Step::Join { left, right };
     let Width::Columns(columns) = memory::fit(values.len(), labels.len(), stack, step) else {
@@ -78,7 +79,8 @@ fn make_table(
     right: Side,
 ) -> Stepped
     requires { ⌜ spec.Sides (length (now values)) (length (now labels)) left right × (columns ≡ spec.width left right) ⌝ }
-    ensures { λ r. ⌜ ends.Finished stack index left right (work (now (values .entry)) (now (labels .entry))) r (work (now (values .exit)) (now (labels .exit))) ⌝ }
+    ensures { λ r. ⌜ ends.Finished stack index left right (work (now (values .entry)) (now (labels .entry))) r
+        (work (now (values .exit)) (now (labels .exit))) ⌝ }
 {
     let made = join_rows(values, labels, left, right);
     if 256 < made {
@@ -87,7 +89,7 @@ fn make_table(
             stack: stack,
         };
     }
-    cells::move_cells(values, labels, LAST_SLOT, left.at, made * columns);
+    moves::move_cells(values, labels, LAST_SLOT, left.at, made * columns);
     Stepped {
         answer: StepAnswer::Made,
         stack: memory::with_table(stack, index, columns, made),

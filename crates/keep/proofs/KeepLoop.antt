@@ -6,18 +6,17 @@ use mathlib.Core.List.{List, [], _∷_, _++_, map, map-append, append-nil}
 use native.Mathlib.Nat.{mul-le-mul-right}
 use native.Mathlib.Numerals.{add-one}
 use native.Mathlib.Omega.{arith}
-use lib.IntN.{ℤ, pos}
+use lib.IntN.{pos}
 use lib.ListN.{length, getD, take, drop, set, length-append, length-set, length-map}
 use lib.Seq.{getD-take, getD-drop}
 use Rattle.plan.specs.Masks.{inMask}
-use Rattle.cells.specs.promises.Cells.{flat, Wide}
+use Rattle.cells.specs.promises.Cells.{Wide, rowFrom}
 use Rattle.cells.specs.promises.Work.{Work, work, cellsIn, room, Kept}
 use Rattle.cells.specs.promises.Written.{Written, CellsWritten}
 use Rattle.memory.specs.declared.LiveTable.{LiveTable}
-use Rattle.memory.specs.promises.Stack.{rowsIn, Inside}
+use Rattle.memory.specs.promises.Stack.{Inside}
 use Rattle.plan.specs.Keep.{keptCount, keptCells, keptRow}
-use Rattle.plan.specs.Sense.{Each}
-use Rattle.plan.specs.Table.{Cell, Row, blank, cellAt, rowsOf}
+use Rattle.plan.specs.Table.{Each, Cell, Row, blank, cellAt, rowsOf, flat}
 use Rattle.keep.specs.promises.Keeping.{RowKept}
 use Rattle.cells.proofs.CellLaws.{cells-length, cells-get, cells-set, kept-none, kept-then, kept-set}
 use Rattle.cells.proofs.RowReads.{row-cells, flat-append, flat-length}
@@ -58,12 +57,8 @@ pub record KeepingRow (mask from to columns : ℕ) (w₀ w : Work) (next column 
   pub next-le : next ≤ from + column
   pub as-many-values : length (w .values) ≡ length (w₀ .values)
   pub as-many-labels : length (w .labels) ≡ length (w₀ .labels)
-  pub written : Written (cellsIn w₀) to (keptCells mask column (record { cells = take columns (drop from (cellsIn w₀)) })) (cellsIn w)
+  pub written : Written (cellsIn w₀) to (keptCells mask column (rowFrom columns (cellsIn w₀) from)) (cellsIn w)
   pub same : Kept w₀ w
-
--- the row that begins at a place, and the cell at a place of both slices
-abbrev rowFrom : Work → ℕ → ℕ → Row
-rowFrom w columns from = record { cells = take columns (drop from (cellsIn w)) }
 
 abbrev pub readFrom : Work → ℕ → Cell
 readFrom w i = record { value = getD (w .values) i (pos 0); label = getD (w .labels) i 0 }
@@ -81,19 +76,19 @@ module _ {mask from to columns : ℕ} {w₀ : Work} (lower : to ≤ from) (in-me
   }
 
   module _ {w : Work} {next column : ℕ} (i : KeepingRow mask from to columns w₀ w next column) (h : column < columns) where
-    cell-read : readFrom w (from + column) ≡ cellAt column (rowFrom w₀ columns from)
+    cell-read : readFrom w (from + column) ≡ cellAt column (rowFrom columns (cellsIn w₀) from)
     cell-read =
         sym (cells-get w (from + column) (pos 0) (omega (arith, i .as-many-values)) (omega (arith, i .as-many-labels)))
-        ∙ read-past (i .written) (from + column) blank (omega (arith, kept-length mask column (rowFrom w₀ columns from), i .next-is, i .next-le))
+        ∙ read-past (i .written) (from + column) blank (omega (arith, kept-length mask column (rowFrom columns (cellsIn w₀) from), i .next-is, i .next-le))
         ∙ sym (getD-drop from (cellsIn w₀) column blank) ∙ sym (getD-take columns (drop from (cellsIn w₀)) column blank h)
 
     pub cell-kept : inMask mask column ≡ true
         → KeepingRow mask from to columns w₀ (work (set (w .values) next (readFrom w (from + column) .value)) (set (w .labels) next (readFrom w (from + column) .label))) (next + 1) (column + 1)
     cell-kept b =
-        let more : keptCells mask (column + 1) (rowFrom w₀ columns from) ≡ keptCells mask column (rowFrom w₀ columns from) ++ (cellAt column (rowFrom w₀ columns from) ∷ [])
-        = ap (λ (n : ℕ). keptCells mask n (rowFrom w₀ columns from)) (add-one column) ∙ ap (λ (b : Bool). keptCells mask column (rowFrom w₀ columns from) ++ cond b (cellAt column (rowFrom w₀ columns from) ∷ []) []) b in
-        let place : to + length (keptCells mask column (rowFrom w₀ columns from)) ≡ next = ap (λ (n : ℕ). to + n) (kept-length mask column (rowFrom w₀ columns from)) ∙ sym (i .next-is) in
-        let cells : cellsIn (work (set (w .values) next (readFrom w (from + column) .value)) (set (w .labels) next (readFrom w (from + column) .label))) ≡ set (cellsIn w) next (cellAt column (rowFrom w₀ columns from))
+        let more : keptCells mask (column + 1) (rowFrom columns (cellsIn w₀) from) ≡ keptCells mask column (rowFrom columns (cellsIn w₀) from) ++ (cellAt column (rowFrom columns (cellsIn w₀) from) ∷ [])
+        = ap (λ (n : ℕ). keptCells mask n (rowFrom columns (cellsIn w₀) from)) (add-one column) ∙ ap (λ (b : Bool). keptCells mask column (rowFrom columns (cellsIn w₀) from) ++ cond b (cellAt column (rowFrom columns (cellsIn w₀) from) ∷ []) []) b in
+        let place : to + length (keptCells mask column (rowFrom columns (cellsIn w₀) from)) ≡ next = ap (λ (n : ℕ). to + n) (kept-length mask column (rowFrom columns (cellsIn w₀) from)) ∙ sym (i .next-is) in
+        let cells : cellsIn (work (set (w .values) next (readFrom w (from + column) .value)) (set (w .labels) next (readFrom w (from + column) .label))) ≡ set (cellsIn w) next (cellAt column (rowFrom columns (cellsIn w₀) from))
         = cells-set w next _ _ ∙ ap (set (cellsIn w) next) cell-read in
         record {
           column-le = omega arith;
@@ -102,14 +97,14 @@ module _ {mask from to columns : ℕ} {w₀ : Work} (lower : to ≤ from) (in-me
           as-many-values = length-set (w .values) next _ ∙ i .as-many-values;
           as-many-labels = length-set (w .labels) next _ ∙ i .as-many-labels;
           written = rw (more, cells)
-              (rw place at (one-written (i .written) (cellAt column (rowFrom w₀ columns from)) (omega (arith, place, i .next-le, cells-length w₀ (from + columns) in-values in-labels))));
+              (rw place at (one-written (i .written) (cellAt column (rowFrom columns (cellsIn w₀) from)) (omega (arith, place, i .next-le, cells-length w₀ (from + columns) in-values in-labels))));
           same = kept-set next _ _ (omega (arith, i .next-le)) (i .same);
         }
 
     pub cell-left : inMask mask column ≡ false → KeepingRow mask from to columns w₀ w next (column + 1)
     cell-left b =
-        let less : keptCells mask (column + 1) (rowFrom w₀ columns from) ≡ keptCells mask column (rowFrom w₀ columns from)
-        = ap (λ (n : ℕ). keptCells mask n (rowFrom w₀ columns from)) (add-one column) ∙ ap (λ (b : Bool). keptCells mask column (rowFrom w₀ columns from) ++ cond b (cellAt column (rowFrom w₀ columns from) ∷ []) []) b ∙ append-nil _ in
+        let less : keptCells mask (column + 1) (rowFrom columns (cellsIn w₀) from) ≡ keptCells mask column (rowFrom columns (cellsIn w₀) from)
+        = ap (λ (n : ℕ). keptCells mask n (rowFrom columns (cellsIn w₀) from)) (add-one column) ∙ ap (λ (b : Bool). keptCells mask column (rowFrom columns (cellsIn w₀) from) ++ cond b (cellAt column (rowFrom columns (cellsIn w₀) from) ∷ []) []) b ∙ append-nil _ in
         record {
           column-le = omega arith;
           next-is = omega (arith, count-next mask column false b, i .next-is);
@@ -124,7 +119,7 @@ pub row-ends : {mask from to columns : ℕ} {w₀ w : Work} {next column : ℕ} 
     → RowKept mask from to columns w₀ next w
 row-ends {mask} {from} {to} {columns} {w₀} {w} e i = record {
   ended = i .next-is ∙ ap (λ (n : ℕ). to + keptCount mask n) e;
-  written = subst (λ (n : ℕ). Written (cellsIn w₀) to (keptCells mask n (record { cells = take columns (drop from (cellsIn w₀)) })) (cellsIn w)) e (i .written);
+  written = subst (λ (n : ℕ). Written (cellsIn w₀) to (keptCells mask n (rowFrom columns (cellsIn w₀) from)) (cellsIn w)) e (i .written);
   kept = i .same;
 }
 

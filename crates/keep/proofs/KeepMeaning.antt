@@ -6,18 +6,16 @@ use mathlib.Core.List.{List, map}
 use native.Mathlib.Omega.{arith}
 use lib.ListN.{length, drop, length-map}
 use borrow.Author.Tests.{leb-true}
-use Rattle.cells.specs.promises.Cells.{flat}
 use Rattle.cells.specs.promises.Work.{Work}
 use Rattle.cells.specs.promises.Written.{CellsWritten}
 use Rattle.memory.specs.declared.LiveTable.{LiveTable}
 use Rattle.memory.specs.declared.Stack.{Stack}
 use Rattle.memory.specs.declared.StepAnswer.the-variants.{Made}
 use Rattle.memory.specs.promises.Stack.{Ready, stackIn, widthsTo, withTable, liveTable, rowsIn, Inside}
-use Rattle.memory.specs.promises.Steps.{verdict, fits, fitsIn, Done}
+use Rattle.memory.specs.promises.Steps.{fits, fitsIn, Done}
 use Rattle.plan.specs.Keep.{keptCount, keptRow, kept}
 use Rattle.plan.specs.Steps.{check, make, tooMany}
-use Rattle.plan.specs.Table.{Table}
-use Rattle.plan.specs.Verdict.{fine}
+use Rattle.plan.specs.Table.{Table, flat}
 use Rattle.plan.specs.Widths.{enoughTables, madeColumns}
 use Rattle.plan.specs.declared.Step.the-variants.{Keep}
 use Rattle.keep.specs.promises.Keeping.{RowsKept}

@@ -8,16 +8,17 @@ ghost use Rattle.cells.specs.promises.Work.{work};
 ghost use Rattle.memory.specs.promises.Stack.{Inside};
 ghost use Rattle.memory.specs.promises.Steps.{Done};
 ghost use Rattle.keep.specs.promises.Keeping as here;
-use kinds::Width;
 use memory::LiveTable;
 use memory::Stack;
 use memory::StepAnswer;
 use memory::Stepped;
 use plan::Step;
+use widths::Width;
 
 // Keeps the columns of the top table that are in the mask.
 pub fn keep(values: &mut [i64], labels: &mut [u32], stack: Stack, mask: u32) -> Stepped
-    ensures { λ r. ⌜ ((tables : List Table) → Done (Keep mask) tables (work (now (values .entry)) (now (labels .entry))) stack r (work (now (values .exit)) (now (labels .exit)))) ⌝ }
+    ensures { λ r. ⌜ ((tables : List Table) → Done (Keep mask) tables (work (now (values .entry)) (now (labels .entry))) stack r
+        (work (now (values .exit)) (now (labels .exit)))) ⌝ }
 {
     let step = Step::Keep { mask };
     let Width::Columns(columns) = memory::fit(values.len(), labels.len(), stack, step) else {
@@ -58,8 +59,10 @@ fn keep_row(
     columns: usize,
     mask: u32,
 ) -> usize
-    requires { ⌜ (to ≤ from) × (columns ≤ 8) × (from + columns ≤ 8192) × (from + columns ≤ length (now values)) × (from + columns ≤ length (now labels)) ⌝ }
-    ensures { λ r. ⌜ here.RowKept mask from to columns (work (now (values .entry)) (now (labels .entry))) r (work (now (values .exit)) (now (labels .exit))) ⌝ }
+    requires { ⌜ (to ≤ from) × (columns ≤ 8) × (from + columns ≤ 8192) × (from + columns ≤ length (now values)) ×
+        (from + columns ≤ length (now labels)) ⌝ }
+    ensures { λ r. ⌜ here.RowKept mask from to columns (work (now (values .entry)) (now (labels .entry))) r
+        (work (now (values .exit)) (now (labels .exit))) ⌝ }
 {
     let mut next = to;
     let mut column = 0;

@@ -1,29 +1,40 @@
--- The laws of what goes by a step's kind. Assumes nothing.
-use Prim.Native.Nat.{ℕ, zero, suc, _+_, _/_, _%_, _^_, _≤_, _<_}
-use mathlib.Core.Path.{_≡_, refl, sym, ap}
-use mathlib.Core.Bool.{Bool, true, false, cond, and-eq-true-iff}
-use mathlib.Core.List.{List, [], _∷_}
-use native.Mathlib.Nat.{mod-lt}
+-- The laws of the tables that steps take off the stack. Assumes nothing.
+use Prim.Native.Nat.{ℕ, _+_, _-_, _≤_, _<_}
+use mathlib.Core.Path.{_≡_, refl}
+use mathlib.Core.Bool.{true, cond}
+use mathlib.Core.List.{[], _∷_}
 use native.Mathlib.Omega.{arith}
-use lib.Dec.{eqb, leb, ltb, lit<}
+use lib.Dec.{eqb, leb, ltb, lit≤, lit<}
 use lib.ListN.{getD}
 use borrow.Author.Tests.{leb-true, ltb-true}
-use Rattle.plan.specs.Masks.{inMask}
-use Rattle.plan.specs.Keep.{keptCount}
+use Rattle.plan.specs.Numbers.{kindOf}
 use Rattle.plan.specs.Steps.{takes}
-use Rattle.plan.specs.Widths.{enoughTables, columnsExist, madeColumns, placed}
+use Rattle.plan.specs.Widths.{enoughTables}
 use Rattle.plan.specs.declared.Step.{Step}
 use Rattle.plan.specs.declared.Step.the-variants.{Scan, Union, Join, Filter, Keep, Apply, Group}
 
+pub kind-within : (step : Step) → (1 ≤ kindOf step) × (kindOf step - 1 < 7)
+kind-within (Scan table) = (lit≤ tt, lit< tt)
+kind-within Union = (lit≤ tt, lit< tt)
+kind-within (Join left right) = (lit≤ tt, lit< tt)
+kind-within (Filter column comparison operand) = (lit≤ tt, lit< tt)
+kind-within (Keep mask) = (lit≤ tt, lit< tt)
+kind-within (Apply column transform) = (lit≤ tt, lit< tt)
+kind-within (Group keys aggregate column) = (lit≤ tt, lit< tt)
+
+-- how many tables a step of each kind takes
+pub taken-by-kind : (step : Step) → getD (0 ∷ 2 ∷ 2 ∷ 1 ∷ 1 ∷ 1 ∷ 1 ∷ []) (kindOf step - 1) 0 ≡ takes step
+taken-by-kind (Scan table) = refl
+taken-by-kind Union = refl
+taken-by-kind (Join left right) = refl
+taken-by-kind (Filter column comparison operand) = refl
+taken-by-kind (Keep mask) = refl
+taken-by-kind (Apply column transform) = refl
+taken-by-kind (Group keys aggregate column) = refl
+
 pub enough-is : (step : Step) (depth : ℕ) → enoughTables step depth ≡ cond (eqb (takes step) 0) (ltb depth 3) (leb (takes step) depth)
 unfolding enoughTables
-enough-is (Scan table) depth = refl
-enough-is Union depth = refl
-enough-is (Join left right) depth = refl
-enough-is (Filter column comparison operand) depth = refl
-enough-is (Keep mask) depth = refl
-enough-is (Apply column transform) depth = refl
-enough-is (Group keys aggregate column) depth = refl
+enough-is step depth = refl
 
 -- a step with enough tables takes those that there are, and leaves at most two
 pub enough-room : (step : Step) (depth : ℕ) → depth ≤ 3 → enoughTables step depth ≡ true → (takes step ≤ depth) × (depth < takes step + 3)
@@ -35,42 +46,3 @@ enough-room (Filter column comparison operand) depth h e = omega (arith, leb-tru
 enough-room (Keep mask) depth h e = omega (arith, leb-true 1 depth e)
 enough-room (Apply column transform) depth h e = omega (arith, leb-true 1 depth e)
 enough-room (Group keys aggregate column) depth h e = omega (arith, leb-true 1 depth e)
-
-pub placed-parts : (step : Step) (tables stack : List ℕ) → placed step tables stack ≡ true
-    → (columnsExist step tables stack ≡ true) × (madeColumns step tables stack ≤ 8)
-placed-parts step tables stack e =
-    let b = and-eq-true-iff (columnsExist step tables stack) (leb (madeColumns step tables stack) 8) .0 e in
-    (b .0, leb-true (madeColumns step tables stack) 8 (b .1))
-
--- a step looks at two tables of the stack
-abbrev pub topTwo : List ℕ → List ℕ
-topTwo stack = getD stack 0 0 ∷ getD stack 1 0 ∷ []
-
-pub two-looked-at : (step : Step) (tables stack : List ℕ)
-    → (columnsExist step tables stack ≡ columnsExist step tables (topTwo stack)) × (madeColumns step tables stack ≡ madeColumns step tables (topTwo stack))
-unfolding columnsExist madeColumns
-two-looked-at (Scan table) tables stack = (refl, refl)
-two-looked-at Union tables stack = (refl, refl)
-two-looked-at (Join left right) tables stack = (refl, refl)
-two-looked-at (Filter column comparison operand) tables stack = (refl, refl)
-two-looked-at (Keep mask) tables stack = (refl, refl)
-two-looked-at (Apply column transform) tables stack = (refl, refl)
-two-looked-at (Group keys aggregate column) tables stack = (refl, refl)
-
-one-le : (t : Bool) → cond t 1 0 ≤ 1
-one-le true = omega arith
-one-le false = omega arith
-
-pub kept-le : (mask width : ℕ) → keptCount mask width ≤ width
-kept-le mask zero = omega arith
-kept-le mask (suc width) = omega (arith, kept-le mask width, one-le (inMask mask width))
-
-digit : (d : ℕ) → d < 2 → d ≡ cond (eqb d 1) 1 0
-digit zero h = refl
-digit (suc zero) h = refl
-digit (suc (suc d)) h = absurd (omega arith)
-
--- one column more
-pub kept-more : (mask column : ℕ) → keptCount mask (suc column) ≡ keptCount mask column + mask / 2 ^ column % 2
-unfolding inMask
-kept-more mask column = ap (λ (d : ℕ). keptCount mask column + d) (sym (digit _ (mod-lt _ (lit< tt))))

@@ -2,32 +2,16 @@
 ghost use mathlib.Core.Path.{_≡_};
 ghost use Rattle.plan.specs.Steps as steps;
 ghost use Rattle.plan.specs.Widths as spec;
+use super::numbers::kind_of;
 use plan::Step;
 
-// How many tables a step takes off the stack.
+// How many tables a step takes off the stack, by its kind, 1 to 7.
 pub fn takes(step: Step) -> usize
     ensures { λ r. ⌜ r ≡ steps.takes step ⌝ }
 {
-    match step {
-        Step::Scan { table: _ } => 0,
-        Step::Union => 2,
-        Step::Join { left: _, right: _ } => 2,
-        Step::Filter {
-            column: _,
-            comparison: _,
-            operand: _,
-        } => 1,
-        Step::Keep { mask: _ } => 1,
-        Step::Apply {
-            column: _,
-            transform: _,
-        } => 1,
-        Step::Group {
-            keys: _,
-            aggregate: _,
-            column: _,
-        } => 1,
-    }
+    let kind = kind_of(step) as usize;
+    let taken = [0, 2, 2, 1, 1, 1, 1];
+    taken[kind - 1]
 }
 
 // 18: whether so many tables are enough for a step, and leave room for a SCAN.

@@ -1,8 +1,7 @@
--- The label rules of document 01, in its order. These files are what a reader must believe.
-pub mod Word
-pub mod Stages
-pub mod WellFormed
-pub mod Answers
-pub mod Discharge
-pub mod Composition
-pub mod Examples
+-- The label rules of document 01, in its order, from the crates that have them.
+pub use Rattle.label_words.specs.Word
+pub use Rattle.label_words.specs.Stages
+pub use Rattle.label_words.specs.WellFormed
+pub use Rattle.label_words.specs.Answers
+pub use Rattle.label_discharge.specs.Discharge
+pub use Rattle.label_composition.specs.Composition

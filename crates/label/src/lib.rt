@@ -1,30 +1,10 @@
 // The label rules: a library of its own. A label is one 32-bit word, a chain of at most four stages.
-mod composition;
-mod discharge;
-mod fields;
-mod test;
-
-pub use composition::compose;
-pub use discharge::discharge_aggregate;
-pub use discharge::discharge_transform;
-pub use test::highest_stage;
-pub use test::stage_count;
-pub use test::well_formed;
-
-// The highest stage present.
-pub enum Highest {
-    H,
-    T,
-    A,
-    N,
-    Clear,
-}
-
-// What composition and discharge answer: a label; the operation is forbidden on the label; the word is
-// no label (15); the operation does not exist (17).
-pub enum Answer {
-    Label(u32),
-    Forbidden,
-    IllFormed,
-    NoOperation,
-}
+// A crate that takes an answer apart depends on `label_words` too, which declares its type.
+pub use label_composition::compose;
+pub use label_discharge::discharge_aggregate;
+pub use label_discharge::discharge_transform;
+pub use label_words::Highest;
+pub use label_words::LabelAnswer;
+pub use label_words::highest_stage;
+pub use label_words::stage_count;
+pub use label_words::well_formed;

@@ -1,7 +1,7 @@
 // Runs the label library on the examples of document 01 and on words and operations that tell its rules apart. Each line has
 // the inputs and the answer, labels in hexadecimal.
-use label::Answer;
 use label::Highest;
+use label::LabelAnswer;
 use libc::STDOUT_FILENO;
 
 fn main() {
@@ -154,12 +154,17 @@ fn word(word: u32) {
 
 fn highest(top: Highest) {
     match top {
-        Highest::H => text(b", highest H\n"),
-        Highest::T => text(b", highest T\n"),
-        Highest::A => text(b", highest A\n"),
-        Highest::N => text(b", highest N\n"),
+        Highest::H => stage(b'H'),
+        Highest::T => stage(b'T'),
+        Highest::A => stage(b'A'),
+        Highest::N => stage(b'N'),
         Highest::Clear => text(b", clear\n"),
     }
+}
+
+fn stage(letter: u8) {
+    text(b", highest ");
+    text(&[letter, b'\n']);
 }
 
 fn composition(left: u32, right: u32) {
@@ -171,31 +176,31 @@ fn composition(left: u32, right: u32) {
 
 // 0 add, 1 sub, 2 cut, 3 band.
 fn transform(word: u32, operation: u32, digits: u32) {
-    hex(word);
-    text(b" transform ");
-    decimal(operation);
-    text(b" digits ");
-    decimal(digits);
+    asked(word, b" transform ", operation, b" digits ", digits);
     answer(label::discharge_transform(word, operation, digits));
 }
 
 // 0 count, 1 sum, 2 min, 3 max, 4 avg.
 fn aggregate(word: u32, operation: u32, rows: u32) {
-    hex(word);
-    text(b" aggregate ");
-    decimal(operation);
-    text(b" rows ");
-    decimal(rows);
+    asked(word, b" aggregate ", operation, b" rows ", rows);
     answer(label::discharge_aggregate(word, operation, rows));
 }
 
-fn answer(a: Answer) {
+fn asked(word: u32, level: &[u8], operation: u32, unit: &[u8], count: u32) {
+    hex(word);
+    text(level);
+    decimal(operation);
+    text(unit);
+    decimal(count);
+}
+
+fn answer(a: LabelAnswer) {
     text(b" gives ");
     match a {
-        Answer::Label(left) => hex(left),
-        Answer::Forbidden => text(b"forbidden"),
-        Answer::IllFormed => text(b"15 at 0"),
-        Answer::NoOperation => text(b"17 at 0"),
+        LabelAnswer::Label(left) => hex(left),
+        LabelAnswer::Forbidden => text(b"forbidden"),
+        LabelAnswer::IllFormed => text(b"15 at 0"),
+        LabelAnswer::NoOperation => text(b"17 at 0"),
     }
     text(b"\n");
 }

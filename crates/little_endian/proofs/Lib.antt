@@ -1,2 +1,2 @@
--- What the proofs share.
-mod Numbers
+-- What the proofs share. Numbers is also for the proofs of other crates to cite.
+pub mod Numbers

@@ -2,30 +2,33 @@
 use Prim.Native.Nat.{ℕ, _+_, _-_, _≤_, _<_}
 use mathlib.Core.Path.{_≡_, refl, sym, ap, ap₂, _∙_}
 use mathlib.Core.Bool.{Bool, true, false, cond, true≢false}
-use mathlib.Core.List.{List, _∷_}
+use mathlib.Core.List.{List, [], _∷_}
 use native.Mathlib.Omega.{arith}
 use lib.ListN.{length, take, drop}
-use Rattle.cells.specs.promises.Cells.{flat, Wide}
-use Rattle.cells.specs.promises.Search.{Reply, says, unfit}
+use Rattle.cells.specs.promises.Cells.{Wide}
+use Rattle.plan.specs.Table.{flat, Each, Row, Table, rowsOf}
+use Rattle.cells.specs.promises.Search.{says, unfit}
 use Rattle.cells.specs.promises.Work.{Work, cellsIn, Kept}
 use Rattle.cells.specs.promises.Written.{CellsWritten}
-use Rattle.kinds.specs.declared.Width.{Width}
-use Rattle.kinds.specs.declared.Width.the-variants.{Columns, Misplaced}
+use Rattle.widths.specs.declared.Width.the-variants.{Columns, Misplaced}
+use Rattle.memory.specs.Refusals.{refusalTells}
 use Rattle.memory.specs.declared.Refusal.{Refusal}
 use Rattle.memory.specs.declared.Refusal.the-variants.{NotClear, Forbidden, OperandNotClear, TooMany}
 use Rattle.memory.specs.declared.Stack.{Stack}
+use Rattle.memory.specs.declared.StepAnswer.{StepAnswer}
 use Rattle.memory.specs.declared.StepAnswer.the-variants.{Made, Refused, DoesNotFit}
 use Rattle.memory.specs.promises.Stack.{ready, Ready, lastSlot, slot, stackIn, withTable, RowsAt}
-use Rattle.memory.specs.promises.Steps.{refusalSays, verdict, leavesRows, stackAfter, DoneWhere}
-use Rattle.plan.specs.Sense.{Each}
+use Rattle.memory.specs.promises.Steps.{refusalSays, stepSays, verdict, leavesRows, DoneWhere}
 use Rattle.plan.specs.Steps.{takes, make}
-use Rattle.plan.specs.Table.{Row, Table, rowsOf}
 use Rattle.plan.specs.Verdict.{Verdict, fine, refused, orElse}
 use Rattle.plan.specs.declared.Step.{Step}
 use Rattle.cells.proofs.CellLaws.{cells-length, kept-none}
 use Rattle.cells.proofs.Rows.{rows-flat}
 use Rattle.cells.proofs.Written.{as-long, below-written, from-written}
 use Rattle.memory.proofs.Stacks.{to-ready, with-ready, stack-with}
+use Rattle.memory.proofs.StepAnswer.{the-type}
+use denote.Enum.Declared.{tagOf}
+use types.Run.{OneOf, miss}
 
 pub or-nothing : (v : Verdict) → orElse v fine ≡ v
 or-nothing fine = refl
@@ -40,6 +43,11 @@ never-unfit e = let z : _≡_ {A = ℕ} 0 1 = cc in omega arith
 clash : {b : Bool} {A : Type 0} → b ≡ true → b ≡ false → A
 clash t f = absurd (true≢false (sym t ∙ f))
 
+-- what a test of the labels found that refuses nothing
+pub fine-parts : (b : Bool) {v : Verdict} → says fine ≡ cond b (says v) unfit → (b ≡ true) × (v ≡ fine)
+fine-parts true e = (refl, sym (says-is e))
+fine-parts false e = absurd (never-unfit (sym e))
+
 -- what a test of the arguments found
 pub columns-fit : (b : Bool) (m : ℕ) {n : ℕ} → cond b (Columns m) Misplaced ≡ Columns n → (b ≡ true) × (n ≡ m)
 columns-fit true m e = (refl, cc)
@@ -52,18 +60,19 @@ columns-misfit false m e = refl
 never-fine : {number row column : ℕ} {A : Type 0} {v : Verdict} → v ≡ refused number row column → v ≡ fine → A
 never-fine r f = let z : _≡_ {A = ℕ} 0 1 = cc in absurd (omega arith)
 
--- every refusal has its verdict
-pub record Verdicts (refusal : Refusal) : Type 0 where
+-- every refusal has its number, row and column, and so its verdict
+pub record Verdicts (refusal : Refusal) : Type 1 where
   pub number : ℕ
   pub row : ℕ
   pub column : ℕ
+  pub tells : {A : Type 0} (tell : ℕ → ℕ → ℕ → A) → refusalTells tell refusal ≡ tell number row column
   pub is : refusalSays refusal ≡ refused number row column
 
 pub verdicts : (refusal : Refusal) → Verdicts refusal
-verdicts (NotClear row column) = record { number = 31; row = row; column = column; is = refl }
-verdicts (Forbidden row column) = record { number = 32; row = row; column = column; is = refl }
-verdicts (OperandNotClear row column) = record { number = 33; row = row; column = column; is = refl }
-verdicts TooMany = record { number = 34; row = 256; column = 0; is = refl }
+verdicts (NotClear row column) = record { number = 31; row = row; column = column; tells = λ tell. refl; is = refl }
+verdicts (Forbidden row column) = record { number = 32; row = row; column = column; tells = λ tell. refl; is = refl }
+verdicts (OperandNotClear row column) = record { number = 33; row = row; column = column; tells = λ tell. refl; is = refl }
+verdicts TooMany = record { number = 34; row = 256; column = 0; tells = λ tell. refl; is = refl }
 
 -- the first refusal of two: nothing after a refusal counts
 pub refusal-stands : (refusal : Refusal) {u : Verdict} (v : Verdict) → says (refusalSays refusal) ≡ says u → says (refusalSays refusal) ≡ says (orElse u v)
@@ -152,3 +161,18 @@ module _ {fit : Bool} (step : Step) (tables : List Table) (before : Work) (stack
     written-done index columns count rows after r allowed low depth made few-columns few-rows counted wide written kept =
         made-done index columns count rows after r allowed low depth made few-columns few-rows counted
         (ap₂ (rowsOf columns) counted (from-written written) ∙ rows-flat columns rows _ wide) (below-written written) (as-long written) kept
+
+  -- an answer other than that the table is made, before anything has changed
+  pub answered-done : (answer : StepAnswer) {v : Verdict} → OneOf (1 ∷ 2 ∷ []) (tagOf the-type answer) → verdict step tables (stackIn before stack) ≡ v → stepSays answer ≡ cond fit (says v) unfit
+      → DoneWhere fit step tables before stack (record { answer = answer; stack = stack }) before
+  answered-done Made k e said = absurd (miss (1 ∷ 2 ∷ []) 0 tt k)
+  answered-done (Refused refusal) {v} k e said = go fit refl said
+    where
+      go : (b : Bool) → fit ≡ b → says (refusalSays refusal) ≡ cond b (says v) unfit → DoneWhere fit step tables before stack (record { answer = Refused refusal; stack = stack }) before
+      go true t said = unchanged-done t refusal (e ∙ sym (says-is said))
+      go false f said = absurd (never-unfit (sym said))
+  answered-done DoesNotFit {v} k e said = go fit refl said
+    where
+      go : (b : Bool) → fit ≡ b → unfit ≡ cond b (says v) unfit → DoneWhere fit step tables before stack (record { answer = DoesNotFit; stack = stack }) before
+      go true t said = absurd (never-unfit said)
+      go false f said = unfit-done f

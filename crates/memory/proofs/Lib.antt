@@ -4,4 +4,6 @@ pub mod LiveTables
 pub mod Finish
 pub mod TopLabels
 pub mod MovedDown
+pub mod Forbids
+pub mod FormedTables
 mod TopWidths

@@ -1,20 +1,18 @@
 -- The live tables of a stack in work memory, where a step fits. Assumes nothing.
-use Prim.Native.Nat.{ℕ, zero, suc, _+_, _-_, _*_, _≤_, _<_}
-use mathlib.Core.Path.{_≡_, refl, sym, ap, ap₂, _∙_}
+use Prim.Native.Nat.{ℕ, suc, _+_, _-_, _*_, _≤_, _<_}
+use mathlib.Core.Path.{_≡_, refl, sym, ap, _∙_}
 use mathlib.Core.Bool.{true, _&&_, and-eq-true-iff}
 use mathlib.Core.List.{List, _∷_, map}
-use native.Mathlib.Numerals.{add-one}
 use native.Mathlib.Omega.{arith}
 use lib.ListN.{length, getD, drop, length-drop}
 use borrow.Author.Tests.{le-leb, lt-ltb}
 use Rattle.cells.specs.promises.Search.{tableWithin}
 use Rattle.cells.specs.promises.Work.{Work, cellsIn, room}
-use Rattle.kinds.specs.declared.Width.the-variants.{Columns, Misplaced}
 use Rattle.memory.specs.declared.LiveTable.{LiveTable}
 use Rattle.memory.specs.declared.Stack.{Stack}
 use Rattle.memory.specs.promises.Stack.{ready, Ready, slot, tableIn, tablesTo, stackIn, widthsTo, liveAt, liveTable, rowsIn, tableOf, labelsIn, Inside}
 use Rattle.memory.specs.promises.Steps.{fits}
-use Rattle.plan.specs.Table.{Cell, Table, grid, labelsOf, rowsOf}
+use Rattle.plan.specs.Table.{Cell, Table, labelsOf, rowsOf}
 use Rattle.plan.specs.Widths.{enoughTables, placed}
 use Rattle.plan.specs.declared.Step.{Step}
 use Rattle.cells.proofs.CellLaws.{cells-drop, cells-length, le-within}

@@ -5,12 +5,11 @@ use mathlib.Core.List.{List}
 use native.Mathlib.Omega.{arith}
 use lib.ListN.{length, take, drop}
 use lib.Seq.{take-at, take-take}
-use Rattle.cells.specs.promises.Cells.{flat, moved, Wide}
+use Rattle.cells.specs.promises.Cells.{Wide}
 use Rattle.cells.specs.promises.Work.{Work, cellsIn, room}
 use Rattle.cells.specs.promises.Written.{Written, Put}
 use Rattle.memory.specs.promises.Stack.{lastSlot, RowsAt}
-use Rattle.plan.specs.Sense.{Each}
-use Rattle.plan.specs.Table.{Row, rowsOf}
+use Rattle.plan.specs.Table.{Row, rowsOf, flat, Each}
 use Rattle.cells.proofs.CellLaws.{movedIn, cells-moved, kept-moved}
 use Rattle.cells.proofs.RowReads.{flat-length}
 use Rattle.cells.proofs.Rows.{rows-flat}

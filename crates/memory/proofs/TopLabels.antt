@@ -6,8 +6,7 @@ use Rattle.cells.specs.promises.Labelled.{Labelled}
 use Rattle.cells.specs.promises.Work.{Work}
 use Rattle.memory.specs.declared.Stack.{Stack}
 use Rattle.memory.specs.promises.Stack.{stackIn, topFormed}
-use Rattle.plan.specs.Sense.{Each}
-use Rattle.plan.specs.Table.{top}
+use Rattle.plan.specs.Table.{top, Each}
 use Rattle.cells.proofs.LabelledTables.{column-formed, top-labelled}
 
 -- a column of the last one pushed

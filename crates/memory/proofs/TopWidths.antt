@@ -1,20 +1,20 @@
 -- A step that fits, by the widths of the two tables on top of the stack. Assumes nothing.
 use Prim.Native.Nat.{ℕ, zero, suc, _-_, _≤_, _<_}
-use mathlib.Core.Path.{_≡_, refl, sym, ap, ap₂, _∙_}
+use mathlib.Core.Path.{_≡_, refl, _∙_}
 use mathlib.Core.Bool.{Bool, true, false, cond, _&&_}
 use mathlib.Core.List.{List, [], _∷_}
 use native.Mathlib.Omega.{arith}
-use lib.Dec.{leb, ltb}
+use lib.Dec.{ltb}
 use lib.ListN.{getD}
 use borrow.Author.Tests.{le-leb, le-ltb, lt-ltb, ltb-true, ltb-false}
-use Rattle.kinds.specs.promises.Widths.{madeWidth}
+use Rattle.widths.specs.promises.Widths.{madeWidth}
 use Rattle.memory.specs.declared.LiveTable.{LiveTable}
 use Rattle.memory.specs.declared.Stack.{Stack}
 use Rattle.memory.specs.promises.Stack.{ready, Ready, widthsTo, liveAt, noTable, liveTable}
 use Rattle.memory.specs.promises.Steps.{fit}
-use Rattle.plan.specs.Widths.{enoughTables, placed, madeColumns}
+use Rattle.plan.specs.Widths.{enoughTables}
 use Rattle.plan.specs.declared.Step.{Step}
-use Rattle.kinds.proofs.Laws.{topTwo, two-looked-at}
+use Rattle.widths.proofs.Laws.{two-looked-at}
 use Rattle.memory.proofs.Stacks.{is-ready}
 
 -- the widths on the stack, counted from the top

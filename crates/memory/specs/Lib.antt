@@ -1,2 +1,4 @@
--- Work memory as tables. Nothing here is to be believed: `promises` has what the crates promise one another.
+-- Work memory as tables. `Refusals` has the numbers of the steps' refusals, which a reader must believe; `promises` has what the crates promise one
+-- another.
+pub mod Refusals
 pub mod promises

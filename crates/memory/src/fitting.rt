@@ -5,8 +5,8 @@ ghost use Rattle.memory.specs.promises.Steps as spec;
 use super::Stack;
 use super::live::live_table;
 use super::live::ready;
-use kinds::Width;
 use plan::Step;
+use widths::Width;
 
 // The columns of the table that a step makes, if slices of these lengths and the stack fit it, and the columns that it names exist. No table
 // of the container is known here, so no SCAN fits.
@@ -22,5 +22,5 @@ pub fn fit(values: usize, labels: usize, stack: Stack, step: Step) -> Width
     let none = [0usize; 0];
     let right = live_table(stack, 0);
     let left = live_table(stack, 1);
-    kinds::made_width(step, &none, left.columns, right.columns)
+    widths::made_width(step, &none, left.columns, right.columns)
 }

@@ -12,7 +12,7 @@ use Rattle.aggregate.specs.Aggregate.{exactSum, allInRange, average}
 use Rattle.aggregate.specs.Sentences.{Chosen}
 use Rattle.aggregate.proofs.SentencesProof.{average-is-floored, smaller-is-least, larger-is-greatest}
 use Rattle.plan.specs.Group.{foldedFrom, folded, aggregateValue}
-use Rattle.plan.specs.Sense.{Each}
+use Rattle.plan.specs.Table.{Each}
 use Rattle.plan.specs.Sense.Aggregates.{AggregatesExact, CountIsRows, AggregatesOver}
 use Rattle.plan.specs.declared.Aggregate.the-variants.{Count, Sum, Min, Max, Avg}
 use Rattle.value.specs.Range.{inRange, OVER, settled}

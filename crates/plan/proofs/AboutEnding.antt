@@ -7,7 +7,7 @@ use native.Mathlib.Omega.{arith}
 use lib.ListN.{length, drop}
 use Rattle.plan.specs.Evaluate.{release, refuse, Result, checkRelease, ending, behind, evaluateFrom, evaluate}
 use Rattle.plan.specs.Sense.Ending.{ReleaseIsLast, StepRefuses, ReleaseRefuses, TraceLength}
-use Rattle.plan.specs.Sense.Trace.{stackAfter}
+use Rattle.plan.specs.Sense.Trace.{stackLeft}
 use Rattle.plan.specs.Steps.{takes, check, make, tooMany}
 use Rattle.plan.specs.Table.{Table, grid, top}
 use Rattle.plan.specs.Trace.{Line}
@@ -75,7 +75,7 @@ module _ (tables : List Table) where
   next-stack step stack = make step tables stack ∷ drop (takes step) stack
 
   release-from : (number : ℕ) (stack : List Table) (plan : List Step) (table : Table) → evaluateFrom tables number stack plan .outcome ≡ release table
-      → (table ≡ top (stackAfter tables stack plan)) × (checkRelease table ≡ fine)
+      → (table ≡ top (stackLeft tables stack plan)) × (checkRelease table ≡ fine)
   unfolding evaluateFrom
   release-from number stack [] table e =
       let r = released (checkRelease (top stack)) number _ table e in
@@ -99,7 +99,7 @@ module _ (tables : List Table) where
 
   step-from : (number : ℕ) (stack : List Table) (earlier : List Step) (step : Step) (later : List Step) (n row column : ℕ)
       → evaluateFrom tables number stack (earlier ++ (step ∷ later)) .outcome ≡ refuse n (number + length earlier) row column
-      → let left = stackAfter tables stack earlier in orElse (check step (map grid left)) (tooMany step (make step tables left)) ≡ refused n row column
+      → let left = stackLeft tables stack earlier in orElse (check step (map grid left)) (tooMany step (make step tables left)) ≡ refused n row column
   unfolding evaluateFrom
   step-from number stack [] step later n row column e =
       refused-here (check step (map grid stack)) (tooMany step (make step tables stack)) number _ n row column
@@ -108,7 +108,7 @@ module _ (tables : List Table) where
       step-from (suc number) (next-stack next stack) earlier step later n row column (through number stack next (earlier ++ (step ∷ later)) n (length earlier) row column e)
 
   end-from : (number : ℕ) (stack : List Table) (plan : List Step) (n row column : ℕ) → evaluateFrom tables number stack plan .outcome ≡ refuse n (number + length plan) row column
-      → checkRelease (top (stackAfter tables stack plan)) ≡ refused n row column
+      → checkRelease (top (stackLeft tables stack plan)) ≡ refused n row column
   unfolding evaluateFrom
   end-from number stack [] n row column e = refused-here fine (checkRelease (top stack)) number _ n row column not-refused (rw add-zero at e)
   end-from number stack (next ∷ later) n row column e =

@@ -6,11 +6,10 @@ use mathlib.Core.List.{List, [], _∷_, _++_}
 use lib.Seq.{append-snoc}
 use Rattle.plan.specs.Filter.{passing}
 use Rattle.plan.specs.Group.{sameKeys, anySame, groupsAfter, grouped}
-use Rattle.plan.specs.Sense.{Each}
 use Rattle.plan.specs.Sense.Groups.{GroupRows, Whole, GroupsWhole, GroupsAlike, EachTwo, GroupsApart, Firsts, new, known, firstRows, GroupsInOrder}
 use Rattle.plan.specs.Sense.Rows.{Sifted, keeps, drops}
 use Rattle.plan.specs.Steps.{make}
-use Rattle.plan.specs.Table.{Row}
+use Rattle.plan.specs.Table.{Row, Each}
 use Rattle.plan.proofs.AboutRows.{sifted-append, sifted-each, passing-sifts}
 use Rattle.plan.proofs.Bools.{or-false, clash, is-false}
 use Rattle.plan.proofs.SenseEach.{each-append, each-weaken, each-left, each-last, each-if}

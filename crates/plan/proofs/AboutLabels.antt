@@ -4,16 +4,15 @@ use mathlib.Core.Path.{_≡_, ap}
 use mathlib.Core.List.{List, [], _∷_, map}
 use lib.ListN.{length}
 use lib.Seq.{getD-at}
-use Rattle.label.specs.Composition.{composed}
-use Rattle.label.specs.Discharge.{afterA}
-use Rattle.label_order.specs.Order.{AsStrict}
-use Rattle.label_order.proofs.OrderProof.{reflexive, transitive, clear-below, composed-above, composed-least}
+use Rattle.label_composition.specs.Composition.{composed}
+use Rattle.label_discharge.specs.Discharge.{afterA}
+use Rattle.label_laws.specs.Order.{AsStrict}
+use Rattle.label_laws.proofs.OrderProof.{reflexive, transitive, clear-below, composed-above, composed-least}
 use Rattle.plan.specs.Group.{composedAfter}
 use Rattle.plan.specs.Keep.{keptCount, keptCells}
 use Rattle.plan.specs.Numbers.{aggregateCode}
-use Rattle.plan.specs.Sense.{Each}
 use Rattle.plan.specs.Sense.Labels.{aggregateLabel, AggregateAsStrict, AggregateNoStricter}
-use Rattle.plan.specs.Table.{Cell, Row, blank, cellAt}
+use Rattle.plan.specs.Table.{Cell, Row, blank, cellAt, Each}
 use Rattle.plan.specs.declared.Aggregate.{Aggregate}
 use Rattle.plan.proofs.SenseKeep.{kept-length}
 

@@ -10,16 +10,15 @@ use lib.Dec.{eqb}
 use lib.IntN.{pos}
 use lib.ListN.{length, getD, length-map, List·getD-map}
 use borrow.Author.Tests.{eqb-true, eq-eqb, not-true}
-use Rattle.label.specs.Discharge.{forbidsT, forbidsA}
-use Rattle.label.specs.Stages.{highest}
-use Rattle.label.specs.Word.{fieldAt}
+use Rattle.label_discharge.specs.Discharge.{forbidsT, forbidsA}
+use Rattle.label_words.specs.Word.{fieldAt}
 use Rattle.plan.specs.Apply.{operandClear, secondClear, applyRow, checkApply}
 use Rattle.plan.specs.Evaluate.{overIn, firstOver, checkRelease}
 use Rattle.plan.specs.Filter.{readBy, checkFilter}
 use Rattle.plan.specs.Masks.{inMask}
 use Rattle.plan.specs.Group.{checkGroup}
 use Rattle.plan.specs.Join.{checkJoin}
-use Rattle.plan.specs.Sense.Refusals.{Place, place, FirstAt, nowhere, at, RowByRow, NumberByNumber, InEachRow, rowAt, cellIn, NotClear, OperandColumn, FilterRefusal, JoinRefusal, GroupRefusal, SecondColumn, ApplyRefusal, ReleaseRefusal}
+use Rattle.plan.specs.Sense.Refusals.{RefusalPlace, place, FirstAt, nowhere, at, RowByRow, NumberByNumber, InEachRow, rowIn, cellIn, NotClear, OperandColumn, FilterRefusal, JoinRefusal, GroupRefusal, SecondColumn, ApplyRefusal, ReleaseRefusal}
 use Rattle.plan.specs.Steps.{check}
 use Rattle.plan.specs.Table.{Cell, Row, Table, clear, blank, noTable, cellAt, labelsOf, grid, top, second}
 use Rattle.plan.specs.Verdict.{Verdict, fine, orElse, refuseIf, firstRow, firstNotClear, notClear}
@@ -33,9 +32,9 @@ use Rattle.plan.proofs.Bools.{and-true, clash, or-left, or-right, eithe
 -- ---- orders of places
 
 -- no place to the right is before one, and no place of the same number below is
-record Order (Before : Place → Place → Type 0) : Type 0 where
-  right : (p q : Place) → p .number ≡ q .number → p .row ≡ q .row → p .column ≤ q .column → Before q p → ⊥
-  below : (p q : Place) → p .number ≡ q .number → p .row < q .row → Before q p → ⊥
+record Order (Before : RefusalPlace → RefusalPlace → Type 0) : Type 0 where
+  right : (p q : RefusalPlace) → p .number ≡ q .number → p .row ≡ q .row → p .column ≤ q .column → Before q p → ⊥
+  below : (p q : RefusalPlace) → p .number ≡ q .number → p .row < q .row → Before q p → ⊥
 
 by-row : Order RowByRow
 by-row = record {
@@ -58,20 +57,20 @@ in-each-row = record {
 -- ---- the first of several tests
 
 -- the place of one cell, of which a fact holds
-record At (number row column : ℕ) (Fact : Type 0) (p : Place) : Type 0 where
+record At (number row column : ℕ) (Fact : Type 0) (p : RefusalPlace) : Type 0 where
   numbered : p .number ≡ number
   in-row : p .row ≡ row
   in-column : p .column ≡ column
   fact : Fact
 
 -- a place in one row, of whose column a fact holds
-record InRow (number row : ℕ) (Fact : ℕ → Type 0) (p : Place) : Type 0 where
+record InRow (number row : ℕ) (Fact : ℕ → Type 0) (p : RefusalPlace) : Type 0 where
   numbered : p .number ≡ number
   in-row : p .row ≡ row
   fact : Fact (p .column)
 
 -- a place in a table whose rows are numbered from `first` on, of whose row and column a fact holds
-record InTable (number first : ℕ) (Fact : ℕ → ℕ → Type 0) (p : Place) : Type 0 where
+record InTable (number first : ℕ) (Fact : ℕ → ℕ → Type 0) (p : RefusalPlace) : Type 0 where
   numbered : p .number ≡ number
   place : ℕ
   in-row : p .row ≡ first + place
@@ -82,20 +81,20 @@ abbrev walk : {A : Type 0} → (ℕ → A → Verdict) → ℕ → List A → Ve
 walk test i [] = fine
 walk test i (x ∷ xs) = orElse (test i x) (walk test (suc i) xs)
 
-module _ {Before : Place → Place → Type 0} where
-  first-same : {F G : Place → Type 0} → ((p : Place) → F p → G p) → ((p : Place) → G p → F p) → {v : Verdict} → FirstAt Before F v → FirstAt Before G v
+module _ {Before : RefusalPlace → RefusalPlace → Type 0} where
+  first-same : {F G : RefusalPlace → Type 0} → ((p : RefusalPlace) → F p → G p) → ((p : RefusalPlace) → G p → F p) → {v : Verdict} → FirstAt Before F v → FirstAt Before G v
   first-same f g (nowhere h) = nowhere (λ p x. h p (g p x))
   first-same f g (at h k) = at (f _ h) (λ p b x. k p b (g p x))
 
-  first-or : {F G : Place → Type 0} → ((p q : Place) → F p → G q → Before q p → ⊥) → {v w : Verdict} → FirstAt Before F v → FirstAt Before G w
+  first-or : {F G : RefusalPlace → Type 0} → ((p q : RefusalPlace) → F p → G q → Before q p → ⊥) → {v w : Verdict} → FirstAt Before F v → FirstAt Before G w
       → FirstAt Before (λ p. F p ⊎ G p) (orElse v w)
   first-or apart (nowhere h) (nowhere k) = nowhere (λ p. ⊎-elim (h p) (k p))
   first-or apart (nowhere h) (at k l) = at (inr k) (λ p b. ⊎-elim (h p) (l p b))
   first-or apart (at h k) l = at (inl h) (λ p b. ⊎-elim (k p b) (λ g. apart _ p h g b))
 
-  module _ {A : Type 0} (none : A) (test : ℕ → A → Verdict) (F : ℕ → A → Place → Type 0) (first : (i : ℕ) (x : A) → FirstAt Before (F i x) (test i x))
-      (apart : (i j : ℕ) (x y : A) (p q : Place) → i < j → F i x p → F j y q → Before q p → ⊥) (nothing : (i : ℕ) (p : Place) → F i none p → ⊥) where
-    abbrev Walked : ℕ → List A → Place → Type 0
+  module _ {A : Type 0} (none : A) (test : ℕ → A → Verdict) (F : ℕ → A → RefusalPlace → Type 0) (first : (i : ℕ) (x : A) → FirstAt Before (F i x) (test i x))
+      (apart : (i j : ℕ) (x y : A) (p q : RefusalPlace) → i < j → F i x p → F j y q → Before q p → ⊥) (nothing : (i : ℕ) (p : RefusalPlace) → F i none p → ⊥) where
+    abbrev Walked : ℕ → List A → RefusalPlace → Type 0
     Walked i xs p = (k : ℕ) × F (i + k) (getD xs k none) p
 
     walked : (i : ℕ) (xs : List A) → FirstAt Before (Walked i xs) (walk test i xs)
@@ -107,11 +106,11 @@ module _ {Before : Place → Place → Type 0} where
         next : (k : ℕ) → i + suc k ≡ suc i + k
         next k = omega arith
 
-        split : (p : Place) (k : ℕ) → F (i + k) (getD (x ∷ xs) k none) p → F i x p ⊎ Walked (suc i) xs p
+        split : (p : RefusalPlace) (k : ℕ) → F (i + k) (getD (x ∷ xs) k none) p → F i x p ⊎ Walked (suc i) xs p
         split p zero f = inl (rw add-zero at f)
         split p (suc k) f = inr (k, rw (next k) at f)
 
-module _ {Before : Place → Place → Type 0} (order : Order Before) (number : ℕ) where
+module _ {Before : RefusalPlace → RefusalPlace → Type 0} (order : Order Before) (number : ℕ) where
   first-if : (fact : Bool) (row column : ℕ) → FirstAt Before (At number row column (fact ≡ true)) (refuseIf fact number row column)
   first-if true row column =
       at record { numbered = refl; in-row = refl; in-column = refl; fact = refl }
@@ -139,10 +138,10 @@ module _ {Before : Place → Place → Type 0} (order : Order Before) (number : 
       (walked none test (λ row x. InRow number row (Fact x)) in-rows (λ r s x y p q h f g. order .below p q (f .numbered ∙ sym (g .numbered)) (omega arith)) (λ r p f. nothing (p .column) (f .fact)) first xs)
 
 -- places of a table whose rows are numbered from 0 on
-in-table : {number : ℕ} {Fact : ℕ → ℕ → Type 0} {p : Place} → InTable number 0 Fact p → (p .number ≡ number) × Fact (p .row) (p .column)
+in-table : {number : ℕ} {Fact : ℕ → ℕ → Type 0} {p : RefusalPlace} → InTable number 0 Fact p → (p .number ≡ number) × Fact (p .row) (p .column)
 in-table {p = p} t = let e : t .place ≡ p .row = omega arith in (t .numbered, rw e at (t .fact))
 
-to-table : {number : ℕ} (Fact : ℕ → ℕ → Type 0) (p : Place) → p .number ≡ number → Fact (p .row) (p .column) → InTable number 0 Fact p
+to-table : {number : ℕ} (Fact : ℕ → ℕ → Type 0) (p : RefusalPlace) → p .number ≡ number → Fact (p .row) (p .column) → InTable number 0 Fact p
 to-table Fact p e f = record { numbered = e; place = p .row; in-row = sym (zero-add (p .row)); fact = f }
 
 -- ---- the checks as walks
@@ -170,7 +169,7 @@ overs-walk row (next ∷ rest) = ap (orElse (overIn row 0 (next .cells))) (overs
 label-at : (table : Table) (row column : ℕ) → getD (getD (grid table) row []) column 0 ≡ cellIn table row column .label
 label-at table row column =
     ap (λ (labels : List ℕ). getD labels column 0) (List·getD-map labelsOf (table .rows) row (record { cells = [] }))
-    ∙ List·getD-map (λ cell. cell .label) (rowAt row table .cells) column blank
+    ∙ List·getD-map (λ cell. cell .label) (rowIn row table .cells) column blank
 
 grid-at : (n : ℕ) (stack : List Table) → getD (map grid stack) n [] ≡ grid (getD stack n noTable)
 grid-at n stack = List·getD-map grid stack n noTable
@@ -180,7 +179,7 @@ abbrev unclear : (ℕ → Bool) → ℕ → ℕ → Bool
 unclear wanted column label = wanted column && not (clear label)
 
 -- the first cell of a table that is wanted and not clear
-first-unclear : {Before : Place → Place → Type 0} → Order Before → (wanted : ℕ → Bool) (number : ℕ) (table : Table) (first : ℕ)
+first-unclear : {Before : RefusalPlace → RefusalPlace → Type 0} → Order Before → (wanted : ℕ → Bool) (number : ℕ) (table : Table) (first : ℕ)
     → FirstAt Before (InTable number first (λ row column. (wanted column ≡ true) × NotClear table row column)) (notClear wanted number first (grid table))
 first-unclear order wanted number table first =
     rw (rows-walk (firstNotClear wanted number 0) first (grid table))
@@ -231,18 +230,18 @@ join-refusal a b stack =
 -- ---- GROUP and APPLY
 
 clear-allows-A : forbidsA 0 ≡ false
-unfolding forbidsA highest fieldAt
+unfolding forbidsA fieldAt
 clear-allows-A = refl
 
 clear-allows-T : forbidsT 0 ≡ false
-unfolding forbidsT highest fieldAt
+unfolding forbidsT fieldAt
 clear-allows-T = refl
 
 -- a column of a row whose label is forbidden
 abbrev Forbidden : (ℕ → Bool) → ℕ → List ℕ → ℕ → Type 0
 Forbidden forbids column labels c = (c ≡ column) × (forbids (getD labels c 0) ≡ true)
 
-first-forbidden : {Before : Place → Place → Type 0} → Order Before → (forbids : ℕ → Bool) (column row : ℕ) (labels : List ℕ)
+first-forbidden : {Before : RefusalPlace → RefusalPlace → Type 0} → Order Before → (forbids : ℕ → Bool) (column row : ℕ) (labels : List ℕ)
     → FirstAt Before (InRow 32 row (Forbidden forbids column labels)) (refuseIf (forbids (getD labels column 0)) 32 row column)
 first-forbidden order forbids column row labels =
     first-same (λ p f. record { numbered = f .numbered; in-row = f .in-row; fact = (f .in-column, rw (f .in-column) (f .fact)) })
@@ -278,18 +277,18 @@ second-unclear (Cut digits) row labels = nowhere (λ p f. f .fact .0)
 second-unclear (Band width) row labels = nowhere (λ p f. f .fact .0)
 
 module _ (column : ℕ) (transform : Transform) where
-  abbrev Refused : ℕ → List ℕ → Place → Type 0
+  abbrev Refused : ℕ → List ℕ → RefusalPlace → Type 0
   Refused row labels p = InRow 32 row (Forbidden forbidsT column labels) p ⊎ InRow 33 row (Unclear (SecondColumn transform) labels) p
 
   row-refused : (row : ℕ) (labels : List ℕ) → FirstAt InEachRow (Refused row labels) (applyRow column transform row labels)
   row-refused row labels =
       first-or (λ p q f g. ⊎-elim (λ l. omega arith) (λ l. omega arith)) (first-forbidden in-each-row forbidsT column row labels) (second-unclear transform row labels)
 
-  row-of : (row : ℕ) (labels : List ℕ) (p : Place) → Refused row labels p → p .row ≡ row
+  row-of : (row : ℕ) (labels : List ℕ) (p : RefusalPlace) → Refused row labels p → p .row ≡ row
   row-of row labels p = ⊎-elim (λ f. f .in-row) (λ f. f .in-row)
 
   -- a row below is not before one, whatever the numbers
-  below : (r s : ℕ) (a b : List ℕ) (p q : Place) → r < s → Refused r a p → Refused s b q → InEachRow q p → ⊥
+  below : (r s : ℕ) (a b : List ℕ) (p q : RefusalPlace) → r < s → Refused r a p → Refused s b q → InEachRow q p → ⊥
   below r s a b p q h f g = ⊎-elim (λ l. omega (arith, row-of r a p f, row-of s b q g)) (λ l. omega (arith, row-of r a p f, row-of s b q g))
 
 pub apply-refusal : ApplyRefusal

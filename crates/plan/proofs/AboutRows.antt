@@ -8,10 +8,9 @@ use lib.IntN.{ℤ}
 use Rattle.plan.specs.Filter.{holds, passes, passing, filtered}
 use Rattle.plan.specs.Join.{matches, joinedRow, joinedTo, joinedRows, joined}
 use Rattle.plan.specs.Operands.{operandValue}
-use Rattle.plan.specs.Sense.{Each}
 use Rattle.plan.specs.Sense.Rows.{Sifted, keeps, drops, SiftedOnce, Holds, PassesMeans, FilterSifts, MatchesMeans, pairs, JoinSifts}
 use Rattle.plan.specs.Steps.{make}
-use Rattle.plan.specs.Table.{Row, cellAt, top, second}
+use Rattle.plan.specs.Table.{Row, cellAt, top, second, Each}
 use Rattle.plan.specs.declared.Comparison.{Comparison}
 use Rattle.plan.specs.declared.Comparison.the-variants.{Equal, Unequal, Less, AtMost, Greater, AtLeast}
 use Rattle.value.specs.Range.{inRange}

@@ -4,9 +4,9 @@ use mathlib.Core.Path.{_≡_, refl, ap₂}
 use mathlib.Core.List.{List, [], _∷_, _++_, map}
 use native.Mathlib.Omega.{arith}
 use lib.ListN.{length, drop}
-use Rattle.label.specs.Stages.{stageCount}
+use Rattle.label_words.specs.Stages.{stageCount}
 use Rattle.plan.specs.Evaluate.{Result, ending, behind, evaluateFrom, evaluate}
-use Rattle.plan.specs.Sense.Trace.{total, stagesPresent, Figures, stackAfter, TraceLines}
+use Rattle.plan.specs.Sense.Trace.{total, stagesPresent, Figures, stackLeft, TraceLines}
 use Rattle.plan.specs.Steps.{takes, check, make, tooMany}
 use Rattle.plan.specs.Table.{Cell, Row, Table, labelsOf, grid}
 use Rattle.plan.specs.Trace.{Line, stagesIn, stagesLeft, lineOf}
@@ -51,7 +51,7 @@ module _ (tables : List Table) where
 
   lines-from : (number : ℕ) (stack : List Table) (earlier : List Step) (step : Step) (later : List Step) (lines : List Line) (line : Line) (rest : List Line)
       → evaluateFrom tables number stack (earlier ++ (step ∷ later)) .trace ≡ lines ++ (line ∷ rest) → length lines ≡ length earlier
-      → Figures step (make step tables (stackAfter tables stack earlier)) line
+      → Figures step (make step tables (stackLeft tables stack earlier)) line
   lines-from number stack [] step later [] line rest e l = rw (stepped number stack step later line rest e .0) (figures step (make step tables stack))
   lines-from number stack [] step later (first ∷ lines) line rest e l = absurd (omega arith)
   lines-from number stack (next ∷ earlier) step later [] line rest e l = absurd (omega arith)

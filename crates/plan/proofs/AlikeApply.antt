@@ -6,10 +6,10 @@ use mathlib.Core.List.{List}
 use lib.IntN.{ℤ}
 use lib.ListN.{getD}
 use borrow.Author.Tests.{eqb-true, not-false}
-use Rattle.label.specs.Discharge.{allowsTransform, forbidsT, afterT}
+use Rattle.label_discharge.specs.Discharge.{allowsTransform, forbidsT, afterT}
 use Rattle.plan.specs.Apply.{operandClear, secondClear, applyRow, checkApply, transformValue, appliedRow, applied}
 use Rattle.plan.specs.Locked.{appliesAt, anyStep}
-use Rattle.plan.specs.Numbers.{transformCode, digitsOf}
+use Rattle.plan.specs.Numbers.{transformCode, digitsTaken}
 use Rattle.plan.specs.Operands.{operandValue}
 use Rattle.plan.specs.Secrecy.{none, more, AlikeRows, AlikeTables}
 use Rattle.plan.specs.Table.{Row, Table, clear, cellAt, labelsOf, grid}
@@ -38,14 +38,14 @@ module _ (plan : List Step) where
   same-result (Band width) row e r s = ap (band width) e
 
   module _ (column : ℕ) (transform : Transform)
-      (used : (label : ℕ) → allowsTransform label (transformCode transform) (digitsOf transform) ≡ true → anyStep (appliesAt label) plan ≡ true) where
+      (used : (label : ℕ) → allowsTransform label (transformCode transform) (digitsTaken transform) ≡ true → anyStep (appliesAt label) plan ≡ true) where
     applied-alike : (a b : Row) → Tested plan (applyRow column transform) a b → AlikeRows plan (appliedRow column transform a) (appliedRow column transform b)
     applied-alike a b t =
         let first = cells-alike plan column (t .alike) in
         let second = or-fine (refuseIf (forbidsT (getD (labelsOf a) column 0)) 32 (t .at) column) (secondClear transform (t .at) (labelsOf a)) (t .nothing) .1 in
         record {
           cells = both-append (t .alike .cells) (more record {
-            labels = ap (λ (l : ℕ). afterT l (transformCode transform) (digitsOf transform)) (first .labels);
+            labels = ap (λ (l : ℕ). afterT l (transformCode transform) (digitsTaken transform)) (first .labels);
             values = λ o. same-result transform (t .at) (first .values (transform-locked plan transform (cellAt column a .label) (used (cellAt column a .label)) o)) (t .alike) second;
           } none);
         }

@@ -5,8 +5,8 @@ use mathlib.Core.Path.{_≡_, refl, ap, ap₂, sym, _∙_}
 use mathlib.Core.Bool.{Bool, true, false, not, _&&_, _||_}
 use mathlib.Core.List.{List, _∷_, map}
 use lib.ListN.{getD, List·getD-map}
-use Rattle.label.specs.Composition.{composed}
-use Rattle.label.specs.Discharge.{allowsAggregate, forbidsA, afterA}
+use Rattle.label_composition.specs.Composition.{composed}
+use Rattle.label_discharge.specs.Discharge.{allowsAggregate, forbidsA, afterA}
 use Rattle.plan.specs.Masks.{inMask}
 use Rattle.plan.specs.Group.{checkGroup, sameKeys, anySame, groupsAfter, groupSize, aggregateValue, composedAfter, groupRow, grouped}
 use Rattle.plan.specs.Keep.{keptCount}

@@ -4,18 +4,20 @@ use mathlib.Core.Path.{_≡_, refl, sym, ap, _∙_}
 use mathlib.Core.Bool.{Bool, true, false, cond, not, _&&_, _||_}
 use mathlib.Core.List.{List, [], _∷_}
 use lib.Dec.{lit<}
-use Rattle.label.specs.Composition.{composed}
-use Rattle.label.specs.Discharge.{allowsTransform, allowsAggregate, dischargesA, withoutT, withoutA, forbidsA, afterT, afterA}
-use Rattle.label.specs.Word.{fieldAt, hasH, hasT, hasA, hasN}
+use Rattle.label_composition.specs.Composition.{composed}
+use Rattle.label_discharge.specs.Discharge.{allowsTransform, allowsAggregate, dischargesA, withoutT, withoutA, forbidsA, afterT, afterA}
+use Rattle.label_words.specs.Word.{fieldAt, hasH, hasT, hasA, hasN}
 use Rattle.plan.specs.Locked.{appliesAt, groupsAt, anyStep, locked}
-use Rattle.plan.specs.Numbers.{transformCode, digitsOf, aggregateCode}
+use Rattle.plan.specs.Numbers.{transformCode, digitsTaken, aggregateCode}
 use Rattle.plan.specs.declared.Aggregate.{Aggregate}
 use Rattle.plan.specs.declared.Aggregate.the-variants.{Count, Sum, Min, Max, Avg}
 use Rattle.plan.specs.declared.Step.{Step}
 use Rattle.plan.specs.declared.Step.the-variants.{Scan, Union, Join, Filter, Keep, Apply, Group}
 use Rattle.plan.specs.declared.Transform.{Transform}
 use Rattle.plan.specs.declared.Transform.the-variants.{Add, Sub, Cut, Band}
-use Rattle.label.proofs.Laws.{compose-comm, keeps-H, keeps-T, keeps-A, keeps-N, allows-transform, allows-aggregate, lowered-T, lowered-A, same-aggregates, after-T, after-A, forbids-A}
+use Rattle.label_laws.specs.Order.{AsStrict}
+use Rattle.label_laws.proofs.Laws.{stages-T, stages-A, same-aggregates, after-T, after-A, forbids-A}
+use Rattle.label_laws.proofs.OrderProof.{allows-less, composed-above}
 use Rattle.plan.proofs.Bools.{or-false, and-true, clash, or-mono}
 
 pub transform-code-lt : (transform : Transform) → transformCode transform < 4
@@ -83,7 +85,7 @@ applies-mono l m h Union e = e
 applies-mono l m h (Join left right) e = e
 applies-mono l m h (Filter column comparison operand) e = e
 applies-mono l m h (Keep mask) e = e
-applies-mono l m h (Apply column transform) e = h (transformCode transform) (digitsOf transform) (transform-code-lt transform) e
+applies-mono l m h (Apply column transform) e = h (transformCode transform) (digitsTaken transform) (transform-code-lt transform) e
 applies-mono l m h (Group keys aggregate column) e = e
 
 groups-mono : (l m : ℕ) → ((operation : ℕ) → operation < 5 → allowsAggregate l operation ≡ true → allowsAggregate m operation ≡ true)
@@ -97,33 +99,38 @@ groups-mono l m h (Apply column transform) e = e
 groups-mono l m h (Group keys aggregate column) e = h (aggregateCode aggregate) (aggregate-code-lt aggregate) e
 
 module _ (plan : List Step) where
-  -- what is composed is locked if the left label is, and if the right one is
-  pub composed-left : (a b : ℕ) → locked plan (composed a b) ≡ false → locked plan a ≡ false
-  composed-left a b e =
-      let o = unlocked plan (composed a b) e in
+  -- a label is locked if a less strict one is
+  stricter-locked : {a b : ℕ} → AsStrict a b → locked plan b ≡ false → locked plan a ≡ false
+  unfolding allowsAggregate
+  stricter-locked {a} {b} s e =
+      let o = unlocked plan b e in
       not-locked plan a record {
-        H = absent (hasH a) (hasH (composed a b)) (keeps-H a b) (o .H);
-        T = λ t. any-mono (appliesAt (composed a b)) (appliesAt a) (applies-mono (composed a b) a (λ o d h. allows-transform a b o d h t)) plan (o .T (keeps-T a b t));
-        A = λ t. any-mono (groupsAt (composed a b)) (groupsAt a) (groups-mono (composed a b) a (λ o h. allows-aggregate a b o h t)) plan (o .A (keeps-A a b t));
-        N = absent (hasN a) (hasN (composed a b)) (keeps-N a b) (o .N);
+        H = absent (hasH a) (hasH b) (s .H) (o .H);
+        T = λ t. any-mono (appliesAt b) (appliesAt a) (applies-mono b a (λ o d h. allows-less a b s .0 t o d h)) plan (o .T (s .T t));
+        A = λ t. any-mono (groupsAt b) (groupsAt a) (groups-mono b a (s .aggregates t)) plan (o .A (s .A t));
+        N = absent (hasN a) (hasN b) (s .N) (o .N);
       }
 
+  -- what is composed is locked if the left label is, and if the right one is
+  pub composed-left : (a b : ℕ) → locked plan (composed a b) ≡ false → locked plan a ≡ false
+  composed-left a b = stricter-locked (composed-above a b .0)
+
   pub composed-right : (a b : ℕ) → locked plan (composed a b) ≡ false → locked plan b ≡ false
-  composed-right a b e = composed-left b a (ap (locked plan) (compose-comm b a) ∙ e)
+  composed-right a b = stricter-locked (composed-above a b .1)
 
   -- the plan's own operations leave a locked label locked
   pub transform-locked : (transform : Transform) (label : ℕ)
-      → (allowsTransform label (transformCode transform) (digitsOf transform) ≡ true → anyStep (appliesAt label) plan ≡ true)
-      → locked plan (afterT label (transformCode transform) (digitsOf transform)) ≡ false → locked plan label ≡ false
+      → (allowsTransform label (transformCode transform) (digitsTaken transform) ≡ true → anyStep (appliesAt label) plan ≡ true)
+      → locked plan (afterT label (transformCode transform) (digitsTaken transform)) ≡ false → locked plan label ≡ false
   transform-locked transform label used e =
-      go (not (hasH label) && hasT label && allowsTransform label (transformCode transform) (digitsOf transform)) refl
-      (rw (after-T label (transformCode transform) (digitsOf transform)) at e)
+      go (not (hasH label) && hasT label && allowsTransform label (transformCode transform) (digitsTaken transform)) refl
+      (rw (after-T label (transformCode transform) (digitsTaken transform)) at e)
     where
-      go : (b : Bool) → (not (hasH label) && hasT label && allowsTransform label (transformCode transform) (digitsOf transform)) ≡ b
+      go : (b : Bool) → (not (hasH label) && hasT label && allowsTransform label (transformCode transform) (digitsTaken transform)) ≡ b
           → locked plan (cond b (withoutT label) label) ≡ false → locked plan label ≡ false
       go true t e =
           let o = unlocked plan (withoutT label) e in
-          let l = lowered-T label in
+          let l = stages-T label in
           not-locked plan label record {
             H = sym (l .H) ∙ o .H;
             T = λ _. used (and-true (not (hasH label) && hasT label) _ t .1);
@@ -143,7 +150,7 @@ module _ (plan : List Step) where
           → locked plan (cond b (withoutA label) label) ≡ false → locked plan label ≡ false
       go true t e =
           let o = unlocked plan (withoutA label) e in
-          let l = lowered-A label in
+          let l = stages-A label in
           let below = or-false (hasH label) (hasT label) (sym (forbids-A label) ∙ free) in
           let allowed = and-true (not (hasH label || hasT label) && hasA label) _ t .1 in
           not-locked plan label record {

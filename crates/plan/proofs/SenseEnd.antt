@@ -10,7 +10,7 @@ use lib.ListN.{length}
 use borrow.Author.Tests.{eqb-true}
 use Rattle.plan.specs.Evaluate.{refuse, Result, checkRelease, ending, evaluateFrom, evaluate}
 use Rattle.plan.specs.Sense.{ReleasedClear, RefusalNumbers}
-use Rattle.plan.specs.Sense.Refusals.{Place, place, FirstAt, nowhere, rowAt}
+use Rattle.plan.specs.Sense.Refusals.{RefusalPlace, place, FirstAt, nowhere, rowIn}
 use Rattle.plan.specs.Steps.{grows, check, make, tooMany}
 use Rattle.plan.specs.Table.{Table, blank, grid, top}
 use Rattle.plan.specs.Verdict.{Verdict, fine, refused, refuseIf}
@@ -24,7 +24,7 @@ use Rattle.plan.proofs.SenseEach.{each-at}
 -- ---- released cells
 
 -- where a check is fine nothing fails
-none-fails : {Before : Place → Place → Type 0} {Fails : Place → Type 0} {v : Verdict} → FirstAt Before Fails v → v ≡ fine → (p : Place) → ¬ Fails p
+none-fails : {Before : RefusalPlace → RefusalPlace → Type 0} {Fails : RefusalPlace → Type 0} {v : Verdict} → FirstAt Before Fails v → v ≡ fine → (p : RefusalPlace) → ¬ Fails p
 none-fails (nowhere h) e = h
 none-fails (FirstAt.at f h) e = absurd (let z : _≡_ {A = ℕ} 0 1 = cc in omega arith)
 
@@ -32,7 +32,7 @@ pub released-clear : ReleasedClear
 released-clear plan tables table e =
     let none = none-fails (release-refusal table) (release-is-last plan tables table e .1) in
     each-at _ (table .rows) (record { cells = [] }) (λ row h.
-    each-at _ (rowAt row table .cells) blank (λ column l. (
+    each-at _ (rowIn row table .cells) blank (λ column l. (
       eqb-true _ 0 (is-true _ (λ f. none (place 35 row column) (inl (refl, f)))),
       is-true _ (λ f. none (place 36 row column) (inr (refl, l, f))),
     )))
@@ -44,7 +44,7 @@ abbrev Numbered : Verdict → Type 0
 Numbered fine = Unit
 Numbered (refused number row column) = (31 ≤ number) × (number ≤ 36)
 
-first-numbered : {Before : Place → Place → Type 0} {Fails : Place → Type 0} {v : Verdict} → ((p : Place) → Fails p → (31 ≤ p .number) × (p .number ≤ 36))
+first-numbered : {Before : RefusalPlace → RefusalPlace → Type 0} {Fails : RefusalPlace → Type 0} {v : Verdict} → ((p : RefusalPlace) → Fails p → (31 ≤ p .number) × (p .number ≤ 36))
     → FirstAt Before Fails v → Numbered v
 first-numbered h (nowhere n) = tt
 first-numbered h (FirstAt.at f n) = h _ f

@@ -14,9 +14,9 @@ use Rattle.plan.specs.Group.{groupsAfter, groupRow, grouped, anySame, sa
 use Rattle.plan.specs.Join.{matches, joinedRow, joinedTo, joinedRows, joined}
 use Rattle.plan.specs.Keep.{keptCount, keptCells, keptRow, kept}
 use Rattle.plan.specs.Scan.{scanned}
-use Rattle.plan.specs.Sense.{Each, Shaped, MadeShaped, Small, MadeSmall}
+use Rattle.plan.specs.Sense.{MadeShaped, Small, MadeSmall}
 use Rattle.plan.specs.Steps.{make, grows, tooMany}
-use Rattle.plan.specs.Table.{Cell, Row, Table, noTable, top, second}
+use Rattle.plan.specs.Table.{Cell, Row, Table, noTable, top, second, Each, Shaped}
 use Rattle.plan.specs.Union.{united}
 use Rattle.plan.specs.Verdict.{fine}
 use Rattle.plan.specs.Widths.{columnsExist, madeColumns}

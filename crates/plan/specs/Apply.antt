@@ -5,8 +5,8 @@ use mathlib.Core.Bool.{not}
 use mathlib.Core.List.{List, [], _∷_, _++_, map}
 use lib.IntN.{ℤ}
 use lib.ListN.{getD}
-use Rattle.label.specs.Discharge.{forbidsT, afterT}
-use Rattle.plan.specs.Numbers.{transformCode, digitsOf}
+use Rattle.label_discharge.specs.Discharge.{forbidsT, afterT}
+use Rattle.plan.specs.Numbers.{transformCode, digitsTaken}
 use Rattle.plan.specs.Operands.{operandValue}
 use Rattle.plan.specs.Table.{Cell, Row, Table, clear, cellAt}
 use Rattle.plan.specs.Verdict.{Verdict, fine, orElse, refuseIf, firstRow}
@@ -45,7 +45,7 @@ transformValue (Band width) value row = band width value
 abbrev pub newCell : Transform → Cell → Row → Cell
 newCell transform first row = record {
   value = transformValue transform (first .value) row;
-  label = afterT (first .label) (transformCode transform) (digitsOf transform);
+  label = afterT (first .label) (transformCode transform) (digitsTaken transform);
 }
 
 abbrev pub appliedRow : ℕ → Transform → Row → Row

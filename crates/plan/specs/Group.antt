@@ -5,8 +5,8 @@ use mathlib.Core.Bool.{Bool, true, false, cond, not, _&&_, _||_}
 use mathlib.Core.List.{List, [], _∷_, _++_, map}
 use lib.IntN.{ℤ, pos}
 use lib.ListN.{length, getD}
-use Rattle.label.specs.Composition.{composed}
-use Rattle.label.specs.Discharge.{forbidsA, afterA}
+use Rattle.label_composition.specs.Composition.{composed}
+use Rattle.label_discharge.specs.Discharge.{forbidsA, afterA}
 use Rattle.plan.specs.Masks.{inMask}
 use Rattle.plan.specs.Filter.{passing}
 use Rattle.plan.specs.Keep.{keptCount, keptCells}

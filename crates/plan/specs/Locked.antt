@@ -2,9 +2,9 @@
 use Prim.Native.Nat.{ℕ}
 use mathlib.Core.Bool.{Bool, false, not, _&&_, _||_}
 use mathlib.Core.List.{List, [], _∷_}
-use Rattle.label.specs.Discharge.{allowsTransform, allowsAggregate}
-use Rattle.label.specs.Word.{hasH, hasT, hasA, hasN}
-use Rattle.plan.specs.Numbers.{transformCode, digitsOf, aggregateCode}
+use Rattle.label_discharge.specs.Discharge.{allowsTransform, allowsAggregate}
+use Rattle.label_words.specs.Word.{hasH, hasT, hasA, hasN}
+use Rattle.plan.specs.Numbers.{transformCode, digitsTaken, aggregateCode}
 use Rattle.plan.specs.declared.Step.{Step}
 use Rattle.plan.specs.declared.Step.the-variants.{Scan, Union, Join, Filter, Keep, Apply, Group}
 
@@ -15,7 +15,7 @@ appliesAt label Union = false
 appliesAt label (Join left right) = false
 appliesAt label (Filter column comparison operand) = false
 appliesAt label (Keep mask) = false
-appliesAt label (Apply column transform) = allowsTransform label (transformCode transform) (digitsOf transform)
+appliesAt label (Apply column transform) = allowsTransform label (transformCode transform) (digitsTaken transform)
 appliesAt label (Group keys aggregate column) = false
 
 -- the step is a GROUP with an aggregate that the label allows; "a group minimum plays no part in it"

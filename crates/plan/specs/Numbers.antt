@@ -36,11 +36,11 @@ transformCode (Cut digits) = 2
 transformCode (Band width) = 3
 
 -- the digits that a cut takes off
-abbrev pub digitsOf : Transform → ℕ
-digitsOf (Add operand) = 0
-digitsOf (Sub operand) = 0
-digitsOf (Cut digits) = digits
-digitsOf (Band width) = 0
+abbrev pub digitsTaken : Transform → ℕ
+digitsTaken (Add operand) = 0
+digitsTaken (Sub operand) = 0
+digitsTaken (Cut digits) = digits
+digitsTaken (Band width) = 0
 
 -- "0 count, 1 sum, 2 min, 3 max, 4 avg"
 abbrev pub aggregateCode : Aggregate → ℕ

@@ -5,14 +5,14 @@ use mathlib.Core.Path.{_≡_}
 use mathlib.Core.Bool.{true, false}
 use mathlib.Core.List.{List, [], _∷_, map}
 use lib.ListN.{length, take}
-use Rattle.label.specs.Discharge.{allowsTransform, allowsAggregate}
-use Rattle.label.specs.Word.{hasH, hasT, hasA, hasN}
+use Rattle.label_discharge.specs.Discharge.{allowsTransform, allowsAggregate}
+use Rattle.label_words.specs.Word.{hasH, hasT, hasA, hasN}
 use Rattle.plan.specs.Apply.{appliedRow}
 use Rattle.plan.specs.Evaluate.{release, refuse, evaluate}
 use Rattle.plan.specs.Locked.{locked}
-use Rattle.plan.specs.Numbers.{transformCode, digitsOf, aggregateCode}
+use Rattle.plan.specs.Numbers.{transformCode, digitsTaken, aggregateCode}
 use Rattle.plan.specs.Steps.{make, tooMany}
-use Rattle.plan.specs.Table.{Row, Table}
+use Rattle.plan.specs.Table.{Row, Table, Each, Shaped}
 use Rattle.plan.specs.Verdict.{fine}
 use Rattle.plan.specs.Widths.{columnsExist, madeColumns}
 use Rattle.plan.specs.declared.Aggregate.{Aggregate}
@@ -28,11 +28,6 @@ pub mod Ending
 pub mod Labels
 pub mod Aggregates
 
--- a fact of each element
-abbrev pub Each : {A : Type 0} → (A → Type 0) → List A → Type 0
-Each P [] = Unit
-Each P (x ∷ xs) = P x × Each P xs
-
 -- every cell of a released table is clear and in range
 abbrev pub ReleasedClear : Type 0
 ReleasedClear = (plan : List Step) (tables : List Table) (table : Table) → evaluate plan tables .outcome ≡ release table
@@ -42,10 +37,6 @@ ReleasedClear = (plan : List Step) (tables : List Table) (table : Table) → eva
 abbrev pub RefusalNumbers : Type 0
 RefusalNumbers = (plan : List Step) (tables : List Table) (number step row column : ℕ) → evaluate plan tables .outcome ≡ refuse number step row column
     → (31 ≤ number) × (number ≤ 36)
-
--- every row has the table's width
-abbrev pub Shaped : Table → Type 0
-Shaped table = Each (λ row. length (row .cells) ≡ table .columns) (table .rows)
 
 -- a step that finds its columns makes a table of such rows, with the columns that the plan's check counts
 abbrev pub MadeShaped : Type 0
@@ -68,7 +59,7 @@ ApplyKeeps = (column : ℕ) (transform : Transform) (row : Row) → take (length
 
 -- "no APPLY has an allowed operation (cut: enough digits)" and "no GROUP has an allowed aggregate", denied
 pub data SomeApply (label : ℕ) : List Step → Type 0 where
-  applies : {column : ℕ} {transform : Transform} {rest : List Step} → allowsTransform label (transformCode transform) (digitsOf transform) ≡ true
+  applies : {column : ℕ} {transform : Transform} {rest : List Step} → allowsTransform label (transformCode transform) (digitsTaken transform) ≡ true
       → SomeApply label (Apply column transform ∷ rest)
   later : {step : Step} {rest : List Step} → SomeApply label rest → SomeApply label (step ∷ rest)
 

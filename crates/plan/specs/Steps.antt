@@ -1,8 +1,8 @@
 -- The seven steps: what each takes off the stack, refuses and makes.
 use Prim.Native.Nat.{ℕ}
-use mathlib.Core.Bool.{Bool, true, false, _&&_}
+use mathlib.Core.Bool.{Bool, _&&_}
 use mathlib.Core.List.{List, []}
-use lib.Dec.{ltb}
+use lib.Dec.{eqb, ltb}
 use lib.ListN.{length, getD}
 use Rattle.plan.specs.Apply.{checkApply, applied}
 use Rattle.plan.specs.Filter.{checkFilter, filtered}
@@ -46,14 +46,9 @@ make (Keep mask) tables stack = kept mask (top stack)
 make (Apply column transform) tables stack = applied column transform (top stack)
 make (Group keys aggregate column) tables stack = grouped keys aggregate column (top stack)
 
+-- UNION and JOIN are the steps that take two tables
 abbrev pub grows : Step → Bool
-grows (Scan table) = false
-grows Union = true
-grows (Join left right) = true
-grows (Filter column comparison operand) = false
-grows (Keep mask) = false
-grows (Apply column transform) = false
-grows (Group keys aggregate column) = false
+grows step = eqb (takes step) 2
 
 -- "34: UNION or JOIN would make more than 256 rows, after 31. Row 256, column 0."
 unfoldable pub tooMany : Step → Table → Verdict

@@ -1,10 +1,11 @@
 -- Cells, rows, tables and the stack. Order is part of each of them.
 use Prim.Native.Nat.{ℕ, zero, suc}
+use mathlib.Core.Path.{_≡_}
 use mathlib.Core.Bool.{Bool}
-use mathlib.Core.List.{List, [], _∷_, map}
+use mathlib.Core.List.{List, [], _∷_, _++_, map}
 use lib.Dec.{eqb}
 use lib.IntN.{ℤ}
-use lib.ListN.{getD, take, drop}
+use lib.ListN.{length, getD, take, drop}
 use Rattle.value.specs.Range.{OVER}
 
 -- a value and its label
@@ -19,6 +20,20 @@ pub record Row : Type 0 where
 pub record Table : Type 0 where
   pub columns : ℕ
   pub rows : List Row
+
+-- the cells of rows, one row after the other
+abbrev pub flat : List Row → List Cell
+flat [] = []
+flat (row ∷ rest) = row .cells ++ flat rest
+
+-- a fact of each element
+abbrev pub Each : {A : Type 0} → (A → Type 0) → List A → Type 0
+Each P [] = Unit
+Each P (x ∷ xs) = P x × Each P xs
+
+-- every row has the table's width
+abbrev pub Shaped : Table → Type 0
+Shaped table = Each (λ row. length (row .cells) ≡ table .columns) (table .rows)
 
 -- "Zero means clear."
 abbrev pub clear : ℕ → Bool

@@ -1,8 +1,8 @@
 -- "Trace: four 32-bit numbers per finished step: kind, rows, columns, and stages left".
 use Prim.Native.Nat.{ℕ, _+_}
-use mathlib.Core.List.{List, [], _∷_}
+use mathlib.Core.List.{List, [], _∷_, _++_}
 use lib.ListN.{length}
-use Rattle.label.specs.Stages.{stageCount}
+use Rattle.label_words.specs.Stages.{stageCount}
 use Rattle.plan.specs.Numbers.{kindOf}
 use Rattle.plan.specs.Table.{Table, grid}
 use Rattle.plan.specs.declared.Step.{Step}
@@ -12,6 +12,14 @@ pub record Line : Type 0 where
   pub rows : ℕ
   pub columns : ℕ
   pub stages : ℕ
+
+-- its four numbers, and those of lines one after the other
+abbrev pub lineNumbers : Line → List ℕ
+lineNumbers line = line .kind ∷ line .rows ∷ line .columns ∷ line .stages ∷ []
+
+abbrev pub flatLines : List Line → List ℕ
+flatLines [] = []
+flatLines (line ∷ rest) = lineNumbers line ++ flatLines rest
 
 abbrev pub stagesIn : List ℕ → ℕ
 stagesIn [] = 0

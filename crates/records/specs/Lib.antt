@@ -1,5 +1,3 @@
--- A plan's records and their checks. These files are what a reader must believe; Private serves private functions alone.
-pub mod PlanPart
-pub mod Verdict
-pub mod PlanCheck
-pub mod Private
+-- A step's record. `Record` is what a reader must believe; `promises` has what the functions of this crate promise one another.
+pub mod Record
+pub mod promises

@@ -1,12 +1,12 @@
 // The step of a plan's record, where the record is as it should be.
 ghost use mathlib.Core.Path.{_≡_};
 ghost use mathlib.Core.Bool.{_&&_};
-ghost use Prim.Native.Nat.{_+_, _*_, _≤_};
+ghost use Prim.Native.Nat.{_^_, _<_};
 ghost use lib.Dec.{ltb};
-ghost use lib.ListN.{length};
 ghost use Rattle.plan.specs.declared.Step.the-variants.{Filter, Group};
-ghost use Rattle.records.specs.PlanPart.{fieldsAt, comparisonOf, aggregateOf, operandFits, operandOf, amountFits, zeros, when, applyBy, stepOf};
-ghost use Rattle.records.specs.Private.{Bytes, Copied};
+ghost use Rattle.records.specs.Record.{comparisonOf, aggregateOf, operandWritten, operandOf, amountFits};
+ghost use Rattle.records.specs.Record.{fieldsAt, zeros, when, applyBy, stepOf};
+ghost use Rattle.records.specs.promises.Fields.{Bytes, Copied};
 use super::Fields;
 use super::Found;
 use little_endian::byte;
@@ -20,7 +20,7 @@ use plan::Transform;
 
 // A step's record, copied out of a plan.
 fn fields_at(plan: &[u8], step: usize) -> Fields
-    requires { ⌜ 16 * step + 16 ≤ length (now plan) ⌝ }
+    requires { ⌜ step < 2 ^ 60 ⌝ }
     ensures { λ r. ⌜ Copied (now (plan .entry)) step r ⌝ }
 {
     let at = 16 * step;
@@ -63,8 +63,8 @@ fn aggregate_of(b: usize) -> Aggregate
 }
 
 // Whether the second operand of FILTER, add or sub is as it should be.
-fn operand_fits(f: Fields) -> bool
-    ensures { λ r. ⌜ r ≡ operandFits f ⌝ }
+fn operand_written(f: Fields) -> bool
+    ensures { λ r. ⌜ r ≡ operandWritten f ⌝ }
 {
     let in_range = value::range::in_range(value::pattern::signed(f.constant));
     ((f.c == 0) & (f.d == 0) & in_range) | ((f.c == 1) & (f.constant == 0))
@@ -108,14 +108,14 @@ fn when(fits: bool, step: Step) -> Found
 
 // FILTER.
 fn filter_of(f: Fields) -> Found
-    ensures { λ r. ⌜ r ≡ when (ltb (f .b) 6 && operandFits f) (Filter (f .a) (comparisonOf (f .b)) (operandOf f)) ⌝ }
+    ensures { λ r. ⌜ r ≡ when (ltb (f .b) 6 && operandWritten f) (Filter (f .a) (comparisonOf (f .b)) (operandOf f)) ⌝ }
 {
     let step = Step::Filter {
         column: f.a,
         comparison: comparison_of(f.b),
         operand: operand_of(f),
     };
-    when((f.b < 6) & operand_fits(f), step)
+    when((f.b < 6) & operand_written(f), step)
 }
 
 // APPLY.
@@ -127,11 +127,11 @@ fn apply_of(f: Fields) -> Found
     match b {
         0 => {
             let transform = Transform::Add(operand_of(f));
-            when(operand_fits(f), Step::Apply { column, transform })
+            when(operand_written(f), Step::Apply { column, transform })
         }
         1 => {
             let transform = Transform::Sub(operand_of(f));
-            when(operand_fits(f), Step::Apply { column, transform })
+            when(operand_written(f), Step::Apply { column, transform })
         }
         2 => {
             if !amount_fits(6, f) {
@@ -197,10 +197,13 @@ fn step_of(f: Fields) -> Found
     }
 }
 
-// The step of the record at an index of a plan that has so many.
+// The step of the record at an index. A byte past the plan's end counts as 0, and no kind is 0.
 pub fn found_at(plan: &[u8], step: usize) -> Found
-    requires { ⌜ 16 * step + 16 ≤ length (now plan) ⌝ }
     ensures { λ r. ⌜ r ≡ stepOf (fieldsAt (now (plan .entry)) step) ⌝ }
 {
-    step_of(fields_at(plan, step))
+    if step <= plan.len() / 16 {
+        step_of(fields_at(plan, step))
+    } else {
+        Found::Nothing
+    }
 }

@@ -2,24 +2,34 @@
 // number and its place.
 mod printed;
 
+ghost use mathlib.Core.List.{List};
 ghost use mathlib.Core.Path.{_≡_};
 ghost use mathlib.Core.Bool.{true};
-ghost use Rattle.evaluator.specs.Answers.{said};
+ghost use Prim.Native.Nat.{ℕ, _≤_};
+ghost use lib.ListN.{length};
+ghost use Rattle.demands.specs.Calls.{runCall};
+ghost use Rattle.demands.specs.Given.{given};
 ghost use Rattle.demands.specs.Lent.{Lent, enough};
-ghost use Rattle.demands.specs.Monitor.{monitor};
-use evaluator::Answer;
 
-// Runs a container over slices of its own, prints what the monitor makes of it, and answers as the monitor does. What it prints is
-// tested and not proved.
-pub fn report(container: &[u8]) -> Answer
-    ensures { λ r. ⌜ ((lent : Lent) → enough lent ≡ true → said r ≡ monitor (now (container .entry)) lent .answer) ⌝ }
+// Runs a container over slices of its own, prints what the monitor makes of it, and answers the number that a call of `cilunovay_run` with
+// slices of enough elements answers. What it prints is tested and not proved.
+pub fn report(container: &[u8]) -> u32
+    ensures { λ r. ⌜ ((lent : Lent) (answer : List ℕ) → enough lent ≡ true → 4 ≤ length answer → r ≡ runCall (given (now (container .entry))) lent answer .number) ⌝ }
 {
     let mut values = [0i64; 8192];
     let mut labels = [0u32; 8192];
     let mut output = [0i64; 2048];
     let mut trace = [0u32; 256];
-    let answer = evaluator::run(container, &mut values, &mut labels, &mut output, &mut trace);
-    let steps = records::step_count(container::part(container, 0));
-    printed::print(&output, &trace, steps, answer);
-    answer
+    let mut answer = [0u64; 4];
+    let number = cilunovay::cilunovay_run(
+        container,
+        &mut values,
+        &mut labels,
+        &mut output,
+        &mut trace,
+        &mut answer,
+    );
+    let steps = plan_part::step_count(layout::part(container, 0));
+    printed::print(&output, &trace, &answer, steps);
+    number
 }

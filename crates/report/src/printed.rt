@@ -1,44 +1,30 @@
 // The lines that stand for an answer, on standard output.
-use evaluator::Answer;
 use libc::STDOUT_FILENO;
+use std::num::wrapping_add_usize;
 use value::pattern;
 
-// The lines of an answer, whose plan has so many steps.
-pub fn print(output: &[i64], trace: &[u32], steps: usize, answer: Answer) {
-    match answer {
-        Answer::Released(rows, columns) => {
-            finished(trace, steps);
-            released(output, rows, columns);
-        }
-        Answer::TooShort => refused(trace, 1, 0, 0, 0),
-        Answer::Container => refused_input(11, 0),
-        Answer::Directory(place) => refused_input(12, place),
-        Answer::Table(place) => refused_input(13, place),
-        Answer::Value(place) => refused_input(14, place),
-        Answer::Label(place) => refused_input(15, place),
-        Answer::Plan(place) => refused_input(16, place),
-        Answer::Record(place) => refused_input(17, place),
-        Answer::Tables(place) => refused_input(18, place),
-        Answer::Columns(place) => refused_input(19, place),
-        Answer::NotClear(step, row, column) => refused(trace, 31, step, row, column),
-        Answer::Forbidden(step, row, column) => refused(trace, 32, step, row, column),
-        Answer::OperandNotClear(step, row, column) => refused(trace, 33, step, row, column),
-        Answer::TooMany(step) => refused(trace, 34, step, 256, 0),
-        Answer::StageLeft(step, row, column) => refused(trace, 35, step, row, column),
-        Answer::Over(step, row, column) => refused(trace, 36, step, row, column),
+// The lines of an answer in numbers, whose plan has so many steps.
+pub fn print(output: &[i64], trace: &[u32], answer: &[u64; 4], steps: usize) {
+    let number = answer[0];
+    if number == 0 {
+        finished(trace, steps);
+        released(output, answer[1] as usize, answer[2] as usize);
+    } else if (11 <= number) & (number < 31) {
+        refused_input(number, answer[1]);
+    } else {
+        finished(trace, answer[1] as usize);
+        refused(number, answer[1], answer[2], answer[3]);
     }
 }
 
-fn refused_input(number: usize, place: usize) {
+fn refused_input(number: u64, place: u64) {
     text(b"X");
     decimal(number);
     decimal(place);
     text(b"\n");
 }
 
-// A refusal because of the state, behind the lines of the steps before it.
-fn refused(trace: &[u32], number: usize, step: usize, row: usize, column: usize) {
-    finished(trace, step);
+fn refused(number: u64, step: u64, row: u64, column: u64) {
     text(b"X");
     decimal(number);
     decimal(step);
@@ -61,7 +47,7 @@ fn step_line(trace: &[u32], step: usize) {
         return;
     }
     text(b"S");
-    decimal(step);
+    decimal(step as u64);
     small(trace[4 * step]);
     small(trace[4 * step + 1]);
     small(trace[4 * step + 2]);
@@ -75,25 +61,26 @@ fn released(output: &[i64], rows: usize, columns: usize) {
     let mut row = 0;
     while row < rows {
         text(b"R");
-        at = row_values(output, at, columns);
+        row_values(output, at, columns);
         text(b"\n");
+        at = wrapping_add_usize(at, columns);
         row += 1;
     }
 }
 
-// The values of one row, and the place behind them.
-fn row_values(output: &[i64], at: usize, columns: usize) -> usize {
-    let mut place = at;
+// So many values from a place on.
+fn row_values(output: &[i64], at: usize, columns: usize) {
     let mut column = 0;
     while column < columns {
-        if output.len() <= place {
-            return place;
-        }
-        signed(output[place]);
-        place += 1;
+        value_at(output, wrapping_add_usize(at, column));
         column += 1;
     }
-    place
+}
+
+fn value_at(output: &[i64], place: usize) {
+    if place < output.len() {
+        signed(output[place]);
+    }
 }
 
 fn signed(value: i64) {
@@ -102,17 +89,16 @@ fn signed(value: i64) {
         io::print_decimal(STDOUT_FILENO, pattern::magnitude(value));
         return;
     }
-    text(b" ");
-    io::print_decimal(STDOUT_FILENO, pattern::magnitude(value));
+    decimal(pattern::magnitude(value));
 }
 
 fn small(number: u32) {
-    decimal(number as usize);
+    decimal(number as u64);
 }
 
-fn decimal(number: usize) {
+fn decimal(number: u64) {
     text(b" ");
-    io::print_decimal(STDOUT_FILENO, number as u64);
+    io::print_decimal(STDOUT_FILENO, number);
 }
 
 fn text(bytes: &[u8]) {

@@ -10,33 +10,34 @@ use lib.IntN.{ℤ}
 use lib.ListN.{length, take, drop, length-map, length-take}
 use lib.Seq.{take-all}
 use borrow.Author.Tests.{leb-true, ltb-true, le-leb}
-use Rattle.container.specs.Contents.{tablesOf}
-use Rattle.container.specs.Layout.{partCount, partOf}
-use Rattle.container.specs.Reading.{readable, overwritten, readingOf, valuesAfter, labelsAfter, Read}
-use Rattle.container.specs.TablePart.{columnsOf, rowCount, cellCount, cellsFrom, shapeOf, tableOf}
-use Rattle.container.specs.declared.Reading.{Reading}
-use Rattle.container.specs.declared.Reading.the-variants as reading
-use Rattle.container.specs.declared.Shape.{Shape}
-use Rattle.memory.specs.declared.StepAnswer.the-variants.{Made}
-use Rattle.memory.specs.declared.Stack.{Stack}
-use Rattle.cells.specs.promises.Cells.{cellsOf, flat}
+use Rattle.cells.specs.promises.Cells.{cellsOf}
+use Rattle.plan.specs.Table.{flat, Cell, rowsOf}
 use Rattle.cells.specs.promises.Work.{Work, work, room, Kept}
 use Rattle.cells.specs.promises.Written.{Written, CellsWritten}
+use Rattle.container.specs.Contents.{tablesOf}
+use Rattle.layout.specs.Layout.{partCount, partOf}
+use Rattle.memory.specs.declared.Stack.{Stack}
+use Rattle.memory.specs.declared.StepAnswer.the-variants.{Made}
 use Rattle.memory.specs.promises.Stack.{Ready, slot, stackIn, widthsTo, withTable}
 use Rattle.memory.specs.promises.Steps.{verdict, fits, widthsOf, DoneWhere}
-use Rattle.cells.proofs.CellLaws.{cells-length, cells-append, cells-drop, cells-take}
-use Rattle.memory.proofs.Finish.{written-done}
-use Rattle.cells.proofs.RowReads.{flat-rows}
-use Rattle.cells.proofs.Rows.{rows-wide, rows-length}
-use Rattle.memory.proofs.LiveTables.{fits-parts}
-use Rattle.cells.proofs.Written.{as-long, past-any}
-use Rattle.plan.specs.declared.Step.the-variants.{Scan}
 use Rattle.plan.specs.Scan.{scanned}
 use Rattle.plan.specs.Steps.{check, make, tooMany}
-use Rattle.plan.specs.Table.{Cell, rowsOf}
 use Rattle.plan.specs.Verdict.{fine}
 use Rattle.plan.specs.Widths.{enoughTables, columnsExist}
+use Rattle.plan.specs.declared.Step.the-variants.{Scan}
 use Rattle.scan.specs.promises.Scanning.{cellsFit, scanFits}
+use Rattle.table_part.specs.TablePart.{columnsOf, rowCount, cellCount, cellsFrom, tableOf}
+use Rattle.table_part.specs.declared.Shape.{Shape}
+use Rattle.table_part.specs.promises.Shape.{shapeOf}
+use Rattle.table_reader.specs.declared.Reading.{Reading}
+use Rattle.table_reader.specs.declared.Reading.the-variants as reading
+use Rattle.table_reader.specs.promises.Reading.{readable, overwritten, readingOf, valuesAfter, labelsAfter, Read}
+use Rattle.cells.proofs.CellLaws.{cells-length, cells-append, cells-drop, cells-take}
+use Rattle.cells.proofs.RowReads.{flat-rows}
+use Rattle.cells.proofs.Rows.{rows-wide, rows-length}
+use Rattle.cells.proofs.Written.{as-long, past-any}
+use Rattle.memory.proofs.Finish.{written-done}
+use Rattle.memory.proofs.LiveTables.{fits-parts}
 use Rattle.scan.proofs.Tables.{widths-count, table-is}
 
 -- what a scan that fits finds

@@ -6,10 +6,10 @@ use native.Mathlib.Nat.{add-zero}
 use native.Mathlib.Omega.{arith}
 use lib.ListN.{length, getD, length-map}
 use Rattle.container.specs.Contents.{tablesFrom, tablesOf}
-use Rattle.container.specs.Layout.{partCount, partOf}
-use Rattle.container.specs.TablePart.{columnsOf, tableOf}
+use Rattle.layout.specs.Layout.{partCount, partOf}
 use Rattle.memory.specs.promises.Steps.{widthsOf}
 use Rattle.plan.specs.Table.{noTable}
+use Rattle.table_part.specs.TablePart.{columnsOf, tableOf}
 
 from-length : (bytes : List ℕ) (part more : ℕ) → length (tablesFrom bytes part more) ≡ more
 from-length bytes part zero = refl

@@ -3,16 +3,16 @@ ghost use mathlib.Core.Path.{_≡_};
 ghost use mathlib.Core.Bool.{true};
 ghost use Prim.Native.Nat.{_+_, _^_, _<_};
 ghost use lib.ListN.{length};
-ghost use Rattle.plan.specs.declared.Step.the-variants.{Scan};
-ghost use Rattle.container.specs.Contents.{tablesOf};
 ghost use Rattle.cells.specs.promises.Work.{work};
+ghost use Rattle.container.specs.Contents.{tablesOf};
 ghost use Rattle.memory.specs.promises.Steps.{DoneWhere};
+ghost use Rattle.plan.specs.declared.Step.the-variants.{Scan};
 ghost use Rattle.scan.specs.promises.Scanning as spec;
-use container::Reading;
 use memory::SLOT;
 use memory::Stack;
 use memory::StepAnswer;
 use memory::Stepped;
+use table_reader::Reading;
 
 // Pushes a table of the container.
 pub fn scan(
@@ -22,7 +22,9 @@ pub fn scan(
     stack: Stack,
     table: usize,
 ) -> Stepped
-    ensures { λ r. ⌜ DoneWhere (spec.scanFits (now (container .entry)) table (length (now (values .entry))) (length (now (labels .entry))) stack) (Scan table) (tablesOf (now (container .entry))) (work (now (values .entry)) (now (labels .entry))) stack r (work (now (values .exit)) (now (labels .exit))) ⌝ }
+    ensures { λ r. ⌜ DoneWhere (spec.scanFits (now (container .entry)) table (length (now (values .entry)))
+        (length (now (labels .entry))) stack) (Scan table) (tablesOf (now (container .entry)))
+        (work (now (values .entry)) (now (labels .entry))) stack r (work (now (values .exit)) (now (labels .exit))) ⌝ }
 {
     if !scan_fits(container, values.len(), labels.len(), stack, table) {
         return Stepped {
@@ -31,8 +33,8 @@ pub fn scan(
         };
     }
     let slot = stack.depth;
-    let part = container::part(container, table + 1);
-    match container::read_cells(part, values, labels, SLOT * slot) {
+    let part = layout::part(container, table + 1);
+    match table_reader::read_cells(part, values, labels, SLOT * slot) {
         Reading::Cells(shape) => Stepped {
             answer: StepAnswer::Made,
             stack: memory::with_table(stack, slot, shape.columns, shape.rows),
@@ -55,21 +57,21 @@ fn scan_fits(container: &[u8], values: usize, labels: usize, stack: Stack, table
     if 3 <= stack.depth {
         return false;
     }
-    let parts = container::part_count(container);
+    let parts = layout::part_count(container);
     if parts <= table {
         return false;
     }
     if parts - table < 2 {
         return false;
     }
-    cells_fit(container::part(container, table + 1))
+    cells_fit(layout::part(container, table + 1))
 }
 
 // Whether a table part has at most 256 rows and 8 columns, and the bytes of all its cells.
 fn cells_fit(part: &[u8]) -> bool
     ensures { λ r. ⌜ r ≡ spec.cellsFit (now (part .entry)) ⌝ }
 {
-    let shape = container::shape_of(part);
+    let shape = table_part::shape_of(part);
     if 8 < shape.columns {
         return false;
     }

@@ -1,19 +1,18 @@
 -- A step's promise leaves open nothing but free elements. Assumes nothing.
 use Prim.Native.Nat.{ℕ, zero, suc, _+_, _-_, _*_, _≤_, _<_}
 use mathlib.Core.Path.{_≡_, refl, sym, ap, _∙_}
-use mathlib.Core.Bool.{Bool, true, false, not, _&&_, _||_, true≢false, and-eq-true-iff, or-true}
+use mathlib.Core.Bool.{Bool, true, false, _&&_, _||_, true≢false, and-eq-true-iff}
 use mathlib.Core.List.{List, [], _∷_}
 use native.Mathlib.Omega.{arith}
 use lib.Dec.{leb, ltb}
-use lib.IntN.{ℤ, pos}
+use lib.IntN.{pos}
 use lib.ListN.{length, getD, take, drop}
 use lib.Seq.{getD-take, getD-drop}
 use borrow.Author.Tests.{leb-true, ltb-true, ltb-false}
-use Rattle.cells.specs.promises.Cells.{flat}
 use Rattle.cells.specs.promises.Work.{Work, cellsIn, room, Kept}
 use Rattle.memory.specs.declared.Stack.{Stack}
 use Rattle.memory.specs.promises.Stack.{Ready, slot, tablesTo}
-use Rattle.plan.specs.Table.{Cell, Table, blank, rowsOf}
+use Rattle.plan.specs.Table.{Cell, Table, blank, rowsOf, flat}
 use Rattle.step.specs.promises.Free.{inTable, inTables, free, OnlyFreeOpen}
 use Rattle.cells.proofs.CellLaws.{cells-get}
 use Rattle.cells.proofs.RowReads.{flat-rows}

@@ -13,7 +13,8 @@ pub fn take_step(
     stack: Stack,
     step: Step,
 ) -> Stepped
-    ensures { λ r. ⌜ Taken (now (container .entry)) step (work (now (values .entry)) (now (labels .entry))) stack r (work (now (values .exit)) (now (labels .exit))) ⌝ }
+    ensures { λ r. ⌜ Taken (now (container .entry)) step (work (now (values .entry)) (now (labels .entry))) stack r
+        (work (now (values .exit)) (now (labels .exit))) ⌝ }
 {
     match step {
         Step::Scan { table } => scan::scan(container, values, labels, stack, table),

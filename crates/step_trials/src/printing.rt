@@ -1,11 +1,135 @@
-// What an answer is made of.
+// A case and what its answer is made of, from the values that stand for them.
+use crate::reading::part;
 use cells::Place;
 use libc::STDOUT_FILENO;
 use memory::Refusal;
 use memory::Stack;
 use memory::StepAnswer;
 use memory::Stepped;
+use plan::Aggregate;
+use plan::Comparison;
+use plan::Operand;
+use plan::Step;
+use plan::Transform;
+use std::num::wrapping_add_usize;
 use value::range::OVER;
+
+// A line that can't be read.
+pub fn unreadable(line: &[u8]) {
+    text(b"cannot read: ");
+    text(line);
+    text(b"\n");
+}
+
+// A step with its fields; SCAN has so many bytes of a container.
+pub fn print_step(step: Step, bytes: usize) {
+    let names = b" SCAN UNION JOIN FILTER KEEP APPLY GROUP";
+    text(part(names, b' ', kinds::kind_of(step) as usize));
+    match step {
+        Step::Scan { table } => {
+            field(table);
+            text(b" of");
+            field(bytes);
+            text(b" bytes");
+        }
+        Step::Union => {}
+        Step::Join { left, right } => {
+            field(left);
+            text(b" =");
+            field(right);
+        }
+        Step::Filter {
+            column,
+            comparison,
+            operand,
+        } => {
+            field(column);
+            sign(comparison);
+            second(operand);
+        }
+        Step::Keep { mask } => field(mask as usize),
+        Step::Apply { column, transform } => {
+            field(column);
+            operation(transform);
+        }
+        Step::Group {
+            keys,
+            aggregate,
+            column,
+        } => {
+            field(keys as usize);
+            summary(aggregate);
+            field(column);
+        }
+    }
+}
+
+fn sign(comparison: Comparison) {
+    let place = match comparison {
+        Comparison::Equal => 0,
+        Comparison::Unequal => 1,
+        Comparison::Less => 2,
+        Comparison::AtMost => 3,
+        Comparison::Greater => 4,
+        Comparison::AtLeast => 5,
+    };
+    text(b" ");
+    text(part(b"= != < <= > >=", b' ', place));
+}
+
+fn summary(aggregate: Aggregate) {
+    text(b" ");
+    text(part(
+        b"count sum min max avg",
+        b' ',
+        operations::aggregate_code(aggregate) as usize,
+    ));
+}
+
+fn operation(transform: Transform) {
+    text(b" ");
+    text(part(
+        b"add sub cut band",
+        b' ',
+        operations::transform_code(transform) as usize,
+    ));
+    match transform {
+        Transform::Add(operand) => second(operand),
+        Transform::Sub(operand) => second(operand),
+        Transform::Cut(digits) => field(digits as usize),
+        Transform::Band(width) => value(width),
+    }
+}
+
+fn second(operand: Operand) {
+    match operand {
+        Operand::Constant(constant) => value(constant),
+        Operand::Column(column) => {
+            text(b" column");
+            field(column);
+        }
+    }
+}
+
+// What a case is given: the values and labels that are lent, where they are too few, and its tables.
+pub fn given(values: &[i64], labels: &[u32], stack: Stack) {
+    text(b":");
+    if values.len() < 8192 {
+        field(values.len());
+        text(b" values,");
+    }
+    if labels.len() < 8192 {
+        field(labels.len());
+        text(b" labels,");
+    }
+    live(values, labels, stack);
+    let depth = stack.depth;
+    match depth {
+        0 => text(b" no tables gives"),
+        1..=3 => text(b" gives"),
+        _ => text(b"; one more gives"),
+    }
+}
 
 // The tables after a step, or its refusal.
 pub fn after(values: &[i64], labels: &[u32], stepped: Stepped) {
@@ -13,7 +137,7 @@ pub fn after(values: &[i64], labels: &[u32], stepped: Stepped) {
     match answer {
         StepAnswer::Made => live(values, labels, stepped.stack),
         StepAnswer::Refused(refusal) => refused(refusal),
-        StepAnswer::DoesNotFit => text(b"does not fit"),
+        StepAnswer::DoesNotFit => text(b" does not fit"),
     }
 }
 
@@ -27,24 +151,24 @@ fn refused(refusal: Refusal) {
 }
 
 fn numbered(number: usize, row: usize, column: usize) {
-    decimal(number);
-    text(b" at ");
+    field(number);
+    text(b" at");
     place_at(row, column);
 }
 
 fn place_at(row: usize, column: usize) {
-    text(b"row ");
-    decimal(row);
-    text(b" column ");
-    decimal(column);
+    text(b" row");
+    field(row);
+    text(b" column");
+    field(column);
 }
 
 // What a search finds.
 pub fn place(found: Place) {
     match found {
         Place::At(row, column) => place_at(row, column),
-        Place::Nowhere => text(b"nowhere"),
-        Place::DoesNotFit => text(b"does not fit"),
+        Place::Nowhere => text(b" nowhere"),
+        Place::DoesNotFit => text(b" does not fit"),
     }
 }
 
@@ -62,33 +186,28 @@ fn live(values: &[i64], labels: &[u32], stack: Stack) {
     }
 }
 
-// A table with its columns, of few rows or of many.
+// A table with its columns; of more than eight rows, which have one column, the first and the last, and how many there are.
 fn table(values: &[i64], labels: &[u32], slot: usize, rows: usize, columns: usize) {
+    let at = slot << 11;
     if 0 < slot {
-        byte(b';');
-        byte(b' ');
+        text(b";");
     }
-    decimal(columns);
-    byte(b'|');
+    field(columns);
+    text(b"|");
     if rows <= 8 {
-        row_by_row(values, labels, slot << 11, rows, columns);
-    } else {
-        ends(values, labels, slot << 11, rows);
+        row_by_row(values, labels, at, rows, columns);
+        return;
     }
-}
-
-// Of more than eight rows, which have one column, the first and the last, and how many there are.
-fn ends(values: &[i64], labels: &[u32], at: usize, rows: usize) {
     cells(values, labels, at, 1);
     text(b" ..");
     cells(
         values,
         labels,
-        std::num::wrapping_sub_usize(std::num::wrapping_add_usize(at, rows), 1),
+        std::num::wrapping_sub_usize(wrapping_add_usize(at, rows), 1),
         1,
     );
-    text(b" of ");
-    decimal(rows);
+    text(b" of");
+    field(rows);
     text(b" rows");
 }
 
@@ -97,28 +216,24 @@ fn row_by_row(values: &[i64], labels: &[u32], at: usize, rows: usize, columns: u
     let mut row = 0;
     while row < rows {
         if 0 < row {
-            byte(b' ');
-            byte(b'/');
+            text(b" /");
         }
-        from = cells(values, labels, from, columns);
+        cells(values, labels, from, columns);
+        from = wrapping_add_usize(from, columns);
         row += 1;
     }
 }
 
-// So many cells, and the place behind them.
-pub fn cells(values: &[i64], labels: &[u32], at: usize, count: usize) -> usize {
-    let mut place = at;
+// So many cells from a place on.
+pub fn cells(values: &[i64], labels: &[u32], at: usize, count: usize) {
     let mut i = 0;
     while i < count {
-        cell(values, labels, place);
-        place = std::num::wrapping_add_usize(place, 1);
+        cell(values, labels, wrapping_add_usize(at, i));
         i += 1;
     }
-    place
 }
 
 fn cell(values: &[i64], labels: &[u32], at: usize) {
-    byte(b' ');
     if at < values.len() {
         if at < labels.len() {
             value(values[at]);
@@ -126,34 +241,33 @@ fn cell(values: &[i64], labels: &[u32], at: usize) {
             return;
         }
     }
-    text(b"none");
+    text(b" none");
+}
+
+fn label(label: u32) {
+    text(b":");
+    io::print_hex(STDOUT_FILENO, label as u64, 1);
 }
 
 // A value, and OVER as a word.
 fn value(value: i64) {
     if value == OVER {
-        text(b"OVER");
+        text(b" OVER");
         return;
     }
     if value < 0 {
-        byte(b'-');
+        text(b" -");
+    } else {
+        text(b" ");
     }
     io::print_decimal(STDOUT_FILENO, value::pattern::magnitude(value));
 }
 
-fn label(label: u32) {
-    byte(b':');
-    io::print_hex(STDOUT_FILENO, label as u64, 1);
-}
-
-pub fn decimal(n: usize) {
-    io::print_decimal(STDOUT_FILENO, n as u64);
+pub fn field(number: usize) {
+    text(b" ");
+    io::print_decimal(STDOUT_FILENO, number as u64);
 }
 
 pub fn text(bytes: &[u8]) {
     io::write_all(STDOUT_FILENO, bytes);
-}
-
-pub fn byte(byte: u8) {
-    io::write_all(STDOUT_FILENO, &[byte]);
 }

@@ -1,106 +1,136 @@
-// Tables as they are printed, put into work memory.
-use crate::reading::byte_at;
-use crate::reading::label;
-use crate::reading::numeral;
-use crate::reading::value;
-use memory::Stack;
+// The tables of a case, put into work memory of its own.
+ghost use mathlib.Core.Path.{_≡_};
+ghost use mathlib.Core.Bool.{cond};
+ghost use Rattle.step_trials.specs.Words.{formOf};
+use crate::answers::Lent;
+use crate::answers::print;
+use crate::cases::Case;
+use crate::printing::unreadable;
+use crate::reading::NONE;
+use crate::reading::bits;
+use crate::reading::count;
+use crate::reading::number;
+use crate::reading::part;
+use crate::reading::place;
+use crate::reading::small;
+use bytes::scan::find;
+use memory::with_table;
 use std::num::wrapping_add_usize;
+use value::pattern::signed;
 
-// What has been read: the tables, the columns of the last one, where its next cell stands, and the last value.
-struct Tables {
-    stack: Stack,
-    columns: usize,
-    place: usize,
-    value: i64,
-}
-
-// Puts the tables of a line into work memory, the first into slot 0.
-pub fn load(v: &mut [i64; 8200], l: &mut [u32; 8200], line: &[u8]) -> Stack {
-    let mut t = Tables {
-        stack: memory::no_tables(),
-        columns: 0,
-        place: 0,
-        value: 0,
-    };
+// Runs a case with so many bytes of a container, of two digits each.
+pub fn decode(line: &[u8], digits: &[u8], bytes: usize, case: Case) {
+    let mut container = [0; 128];
+    if 128 < bytes {
+        unreadable(line);
+        return;
+    }
     let mut i = 0;
-    while i < line.len() {
-        t = read(v, l, t, line, i);
+    while i < bytes {
+        let from = 2 * i;
+        let end = from + 2;
+        if digits.len() < end {
+            unreadable(line);
+            return;
+        }
+        let byte = number(16, &digits[from..end]);
+        if 255 < byte {
+            unreadable(line);
+            return;
+        }
+        container[i] = byte as u8;
         i += 1;
     }
-    t.stack
+    run(line, &container, bytes, case);
 }
 
-// A bar stands behind a table's columns, a space before a value and a colon before its label, `of` before the number of rows, and an `m`
-// in `one more`.
-fn read(v: &mut [i64; 8200], l: &mut [u32; 8200], mut t: Tables, line: &[u8], i: usize) -> Tables {
-    let next = wrapping_add_usize(i, 1);
-    match byte_at(line, i) {
-        b'|' => with_table(
-            t,
-            numeral(line, std::num::wrapping_sub_usize(i, 1), 10) as usize,
-        ),
-        b' ' => {
-            t.value = value(line, next);
-            t
+// What a word between tables is: 0 the columns of a table, 1 a cell, 13 neither of them though it looks so, or what it is by its name.
+fn form(word: &[u8], named: usize) -> usize
+    ensures { λ r. ⌜ r ≡ formOf (now (word .entry)) named ⌝ }
+{
+    if count(word, b'|') == 1 {
+        return if number(10, part(word, b'|', 0)) < NONE {
+            0
+        } else {
+            13
+        };
+    }
+    if count(word, b':') == 1 {
+        if bits(part(word, b':', 0)) == NONE {
+            return 13;
         }
-        b':' => {
-            fill(v, l, t.place, t.value, label(line, next, 16));
-            with_cell(t)
+        return if number(16, part(word, b':', 1)) < 0x1_0000_0000 {
+            1
+        } else {
+            13
+        };
+    }
+    named
+}
+
+fn either(first: bool, a: usize, b: usize) -> usize
+    ensures { λ r. ⌜ r ≡ cond first a b ⌝ }
+{
+    if first { a } else { b }
+}
+
+// Puts the tables into work memory, the first into slot 0, and answers the case. A cell stands in all places behind it too.
+pub fn run(line: &[u8], container: &[u8], bytes: usize, case: Case) {
+    let mut values = [0; 8200];
+    let mut labels = [0; 8200];
+    let mut stack = memory::no_tables();
+    let mut cells = 0;
+    let mut v = 8200;
+    let mut l = 8200;
+    let mut from = wrapping_add_usize(part(line, b':', 0).len(), 2);
+    while from < line.len() {
+        let end = find(line, from, line.len(), b' ');
+        let word = part(&line[from..end], b';', 0);
+        from = end + 1;
+        let top = memory::live_table(stack, 0);
+        let columns = top.columns;
+        let read = number(10, part(word, b'|', 0)) as usize;
+        let names = b"| : # values, labels, more / .. of rows no tables one ";
+        let kind = form(word, place(b' ', word, names));
+        v = either(kind == 3, cells, v);
+        l = either(kind == 4, cells, l);
+        stack.depth = either(kind == 5, 4, stack.depth);
+        match kind {
+            0 => {
+                stack = with_table(stack, stack.depth, read, 0);
+                cells = 0;
+            }
+            1 => {
+                let value = signed(bits(part(word, b':', 0)));
+                let label = small(number(16, part(word, b':', 1)));
+                let mut i = wrapping_add_usize(top.at, cells);
+                while i < 8200 {
+                    values[i] = value;
+                    labels[i] = label;
+                    i += 1;
+                }
+                cells = wrapping_add_usize(cells, 1);
+                if 0 < columns {
+                    stack = with_table(stack, top.slot, columns, cells / columns);
+                }
+            }
+            2 => {
+                cells = read;
+                if 0 < columns {
+                    stack = with_table(stack, top.slot, columns, read);
+                }
+            }
+            3..=12 => {}
+            _ => {
+                unreadable(line);
+                return;
+            }
         }
-        b'o' => with_rows(t, numeral(line, wrapping_add_usize(i, 3), 10) as usize),
-        b'm' => one_more(t),
-        _ => t,
     }
-}
-
-fn with_table(mut t: Tables, columns: usize) -> Tables {
-    let stack = t.stack;
-    let depth = stack.depth;
-    let pushed = memory::with_table(stack, depth, columns, 0);
-    t.stack = pushed;
-    t.columns = columns;
-    t.place = depth << 11;
-    t
-}
-
-// One cell more in the last table.
-fn with_cell(mut t: Tables) -> Tables {
-    let columns = t.columns;
-    t.place = wrapping_add_usize(t.place, 1);
-    if columns < 1 {
-        return t;
-    }
-    with_rows(t, (t.place & 2047) / columns)
-}
-
-// A cell, which stands in all places behind it too.
-fn fill(v: &mut [i64; 8200], l: &mut [u32; 8200], from: usize, value: i64, label: u32) {
-    let mut i = from;
-    while i < 8200 {
-        v[i] = value;
-        l[i] = label;
-        i += 1;
-    }
-}
-
-// The last table with so many rows. Where there is none, or no number, nothing changes.
-fn with_rows(mut t: Tables, rows: usize) -> Tables {
-    if rows == 0 {
-        return t;
-    }
-    let stack = t.stack;
-    let slot = std::num::wrapping_sub_usize(stack.depth, 1);
-    let sized = memory::with_table(stack, slot, t.columns, rows);
-    t.stack = sized;
-    t
-}
-
-// A fourth table has no place on the stack.
-fn one_more(mut t: Tables) -> Tables {
-    let mut stack = t.stack;
-    if stack.depth == 3 {
-        stack.depth = 4;
-    }
-    t.stack = stack;
-    t
+    let lent = Lent {
+        values: v,
+        labels: l,
+        bytes,
+    };
+    print(&mut values, &mut labels, container, lent, stack, case);
 }

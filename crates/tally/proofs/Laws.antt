@@ -8,16 +8,16 @@ use lib.IntN.{ℤ}
 use lib.ListN.{length, take, drop, replicate, length-append, length-drop}
 use lib.Seq.{take-at, drop-at, drop-drop}
 use borrow.Author.Tests.{le-leb}
-use Rattle.cells.specs.promises.Cells.{cellsOf, flat}
+use Rattle.cells.specs.promises.Cells.{cellsOf}
 use Rattle.cells.specs.promises.Search.{tableWithin}
 use Rattle.cells.specs.promises.Work.{Work, work, cellsIn}
 use Rattle.plan.specs.Evaluate.{overIn, firstOver}
-use Rattle.plan.specs.Table.{Cell, labelsOf, rowsOf}
-use Rattle.plan.specs.Trace.{Line, stagesLeft}
+use Rattle.plan.specs.Table.{Cell, labelsOf, rowsOf, flat}
+use Rattle.plan.specs.Trace.{Line, stagesLeft, lineNumbers, flatLines}
 use Rattle.plan.specs.Verdict.{orElse, refuseIf}
-use Rattle.tally.specs.Lines.{numbersOf, flatLines, lineFits, withLine}
-use Rattle.tally.specs.Over.{overFrom, firstOverIn}
-use Rattle.tally.specs.Stages.{stagesAt}
+use Rattle.tally.specs.promises.Lines.{lineFits, withLine}
+use Rattle.tally.specs.promises.Over.{overFrom, firstOverIn}
+use Rattle.tally.specs.promises.Stages.{stagesAt}
 use Rattle.tally.specs.Zeros.{filled}
 use Rattle.value.specs.Range.{inRange}
 use Rattle.cells.proofs.CellLaws.{cells-drop, values-front, le-within}
@@ -70,7 +70,7 @@ lines-length (line ∷ rest) = omega (arith, lines-length rest)
 
 pub lines-append : (lines others : List Line) → flatLines (lines ++ others) ≡ flatLines lines ++ flatLines others
 lines-append [] others = refl
-lines-append (line ∷ rest) others = ap (λ (l : List ℕ). numbersOf line ++ l) (lines-append rest others)
+lines-append (line ∷ rest) others = ap (λ (l : List ℕ). lineNumbers line ++ l) (lines-append rest others)
 
 -- a trace that begins with so many lines, over what stood there before
 module _ (lines : List Line) (trace before : List ℕ) (e : trace ≡ flatLines lines ++ drop (4 * length lines) before) where
@@ -89,8 +89,8 @@ module _ (lines : List Line) (trace before : List ℕ) (e : trace ≡ flatLines 
       let ends : drop k trace ≡ drop k before = ap (drop k) e ∙ drop-at (flatLines lines) (drop k before) k (lines-length lines) in
       let past : drop (k + 4) trace ≡ drop (k + 4) before = sym (drop-drop 4 k trace) ∙ ap (drop 4) ends ∙ drop-drop 4 k before in
       let sum : k + 4 ≡ 4 * (length lines + 1) = omega arith in
-      ap₂ (λ (l r : List ℕ). l ++ (numbersOf next ++ r)) begins (past ∙ ap (λ (n : ℕ). drop n before) sum)
-      ∙ sym (append-assoc (flatLines lines) (numbersOf next) _) ∙ ap (λ (l : List ℕ). l ++ drop (4 * (length lines + 1)) before) (sym (lines-append lines (next ∷ [])))
+      ap₂ (λ (l r : List ℕ). l ++ (lineNumbers next ++ r)) begins (past ∙ ap (λ (n : ℕ). drop n before) sum)
+      ∙ sym (append-assoc (flatLines lines) (lineNumbers next) _) ∙ ap (λ (l : List ℕ). l ++ drop (4 * (length lines + 1)) before) (sym (lines-append lines (next ∷ [])))
 
   -- so after `write_line`
   pub line-written : (next : Line) {answer : Bool} {after : List ℕ} → 4 * (length lines + 1) ≤ length before → answer ≡ lineFits (length lines) trace

@@ -8,7 +8,7 @@ use lib.ListN.{length, getD, take, drop, length-map, List·getD-map}
 use Rattle.cells.specs.promises.Cells.{gridOf}
 use Rattle.plan.specs.Table.{clear}
 use Rattle.plan.specs.Verdict.{Verdict, fine, orElse, refuseIf, firstNotClear, notClear}
-use Rattle.tally.specs.Over.{overFrom, firstOverIn}
+use Rattle.tally.specs.promises.Over.{overFrom, firstOverIn}
 use Rattle.value.specs.Range.{inRange, least, most}
 use Rattle.cells.proofs.Searching as searching
 

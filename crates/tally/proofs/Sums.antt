@@ -7,8 +7,8 @@ use native.Mathlib.Nat.{zero-mul}
 use native.Mathlib.Omega.{arith}
 use lib.ListN.{length, getD, take, drop}
 use lib.Seq.{take-add}
-use Rattle.label.specs.Stages.{one, stageCount}
-use Rattle.label.specs.Word.{hasH, hasT, hasA, hasN}
+use Rattle.label_words.specs.Stages.{one, stageCount}
+use Rattle.label_words.specs.Word.{hasH, hasT, hasA, hasN}
 use Rattle.cells.specs.promises.Cells.{gridOf}
 use Rattle.plan.specs.Trace.{stagesIn, stagesLeft}
 use Rattle.tally.proofs.Parts.{part-more}

@@ -1,6 +1,4 @@
--- What is read off a table in work memory, and what is put into the lent slices. These files are what a reader must believe.
-pub mod Lines
-pub mod Output
-pub mod Over
-pub mod Stages
+-- What is read off a table in work memory, and what is put into the lent slices. `Zeros` is what a reader must believe; `promises` has what the crates
+-- promise one another.
 pub mod Zeros
+pub mod promises

@@ -1,7 +1,7 @@
 // Trace lines.
 ghost use mathlib.Core.Path.{_≡_};
 ghost use mathlib.Core.Bool.{cond};
-ghost use Rattle.tally.specs.Lines as spec;
+ghost use Rattle.tally.specs.promises.Lines as spec;
 
 // Writes a step's trace line, and answers true. Where the trace is too short for it, it changes nothing.
 pub fn write_line(
@@ -13,7 +13,8 @@ pub fn write_line(
     stages: u32,
 ) -> bool
     ensures { λ r. ⌜ r ≡ spec.lineFits step (now (trace .entry)) ⌝ }
-    ensures { λ r. ⌜ now (trace .exit) ≡ cond r (spec.withLine step (spec.line kind rows columns stages) (now (trace .entry))) (now (trace .entry)) ⌝ }
+    ensures { λ r. ⌜ now (trace .exit) ≡ cond r (spec.withLine step (spec.line kind rows columns stages) (now (trace .entry)))
+        (now (trace .entry)) ⌝ }
 {
     if trace.len() / 4 <= step {
         return false;

@@ -1,7 +1,7 @@
 // Released values.
 ghost use mathlib.Core.Path.{_≡_};
 ghost use mathlib.Core.Bool.{cond};
-ghost use Rattle.tally.specs.Output as spec;
+ghost use Rattle.tally.specs.promises.Output as spec;
 
 // Copies `count` values from place `at` on to the output's start, and answers true. Where they do not lie within the values, or the
 // output is shorter, it changes nothing.

@@ -2,7 +2,7 @@
 ghost use mathlib.Core.Path.{_≡_};
 ghost use Prim.Native.Nat.{ℕ};
 ghost use Rattle.cells.specs.promises.Search.{placeSays};
-ghost use Rattle.tally.specs.Over as spec;
+ghost use Rattle.tally.specs.promises.Over as spec;
 use cells::Place;
 
 // The first cell, row by row and left to right, whose value is out of range, of the table of so many rows and columns from place

@@ -1,6 +1,6 @@
 // The stages left on a table.
 ghost use mathlib.Core.Path.{_≡_};
-ghost use Rattle.tally.specs.Stages as spec;
+ghost use Rattle.tally.specs.promises.Stages as spec;
 
 // The sum of present stages over all cells of the table of so many rows and columns from place `at` of the labels on, at most
 // 8,192. It is 0 where the table does not lie within the slice.

@@ -9,7 +9,7 @@ use lib.Dec.{ltb}
 use lib.ListN.{length, take, drop, length-append, length-drop, take-append-drop}
 use lib.Seq.{drop-drop, length-take-le}
 use borrow.Author.Tests.{eqb-true, leb-true, lt-ltb, le-ltb}
-use Rattle.cells.specs.promises.Cells.{flat, Wide}
+use Rattle.cells.specs.promises.Cells.{Wide}
 use Rattle.cells.specs.promises.Work.{Work, cellsIn, room}
 use Rattle.cells.specs.promises.Written.{Written}
 use Rattle.memory.specs.declared.LiveTable.{LiveTable}
@@ -18,9 +18,8 @@ use Rattle.memory.specs.declared.Stack.{Stack}
 use Rattle.memory.specs.declared.StepAnswer.the-variants.{Made, Refused}
 use Rattle.memory.specs.promises.Stack.{Ready, slot, stackIn, widthsTo, withTable, liveTable, rowsIn}
 use Rattle.memory.specs.promises.Steps.{verdict, fits, fitsIn, Done}
-use Rattle.plan.specs.Sense.{Each}
 use Rattle.plan.specs.Steps.{check, make, tooMany}
-use Rattle.plan.specs.Table.{Row, Table, rowsOf}
+use Rattle.plan.specs.Table.{Row, Table, rowsOf, flat, Each}
 use Rattle.plan.specs.Union.{united}
 use Rattle.plan.specs.Verdict.{refuseIf}
 use Rattle.plan.specs.Widths.{enoughTables, columnsExist, madeColumns}

@@ -4,16 +4,17 @@ ghost use Rattle.plan.specs.declared.Step.the-variants.{Union};
 ghost use Rattle.plan.specs.Table.{Table};
 ghost use Rattle.cells.specs.promises.Work.{work};
 ghost use Rattle.memory.specs.promises.Steps.{Done};
-use kinds::Width;
 use memory::Refusal;
 use memory::Stack;
 use memory::StepAnswer;
 use memory::Stepped;
 use plan::Step;
+use widths::Width;
 
 // Puts the rows of the top table behind those of the table below it.
 pub fn union(values: &mut [i64], labels: &mut [u32], stack: Stack) -> Stepped
-    ensures { λ r. ⌜ ((tables : List Table) → Done Union tables (work (now (values .entry)) (now (labels .entry))) stack r (work (now (values .exit)) (now (labels .exit)))) ⌝ }
+    ensures { λ r. ⌜ ((tables : List Table)
+        → Done Union tables (work (now (values .entry)) (now (labels .entry))) stack r (work (now (values .exit)) (now (labels .exit)))) ⌝ }
 {
     let Width::Columns(columns) = memory::fit(values.len(), labels.len(), stack, Step::Union) else {
         return Stepped {
@@ -29,7 +30,7 @@ pub fn union(values: &mut [i64], labels: &mut [u32], stack: Stack) -> Stepped
             stack: stack,
         };
     }
-    cells::move_cells(
+    moves::move_cells(
         values,
         labels,
         right.at,

@@ -32,9 +32,9 @@ withValues a [] = a
 withValues a (v ∷ vs) = withValues (withValue a v) vs
 
 -- the aggregate that it gives
-abbrev pub valueOf : Aggregate → Accumulator → ℤ
-valueOf Count a = pos (a .rows)
-valueOf Sum a = cond (a .exact) (settled (a .total)) OVER
-valueOf Min a = a .least
-valueOf Max a = a .most
-valueOf Avg a = cond (a .exact) (average (a .total) (a .rows)) OVER
+abbrev pub aggregateOf : Aggregate → Accumulator → ℤ
+aggregateOf Count a = pos (a .rows)
+aggregateOf Sum a = cond (a .exact) (settled (a .total)) OVER
+aggregateOf Min a = a .least
+aggregateOf Max a = a .most
+aggregateOf Avg a = cond (a .exact) (average (a .total) (a .rows)) OVER

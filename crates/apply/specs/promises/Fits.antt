@@ -3,7 +3,7 @@ use Prim.Native.Nat.{ℕ}
 use mathlib.Core.Bool.{Bool, _&&_}
 use mathlib.Core.List.{List}
 use Rattle.cells.specs.promises.Work.{Work}
-use Rattle.kinds.specs.promises.Operations.{operationFits}
+use Rattle.operations.specs.promises.Operations.{operationFits}
 use Rattle.memory.specs.declared.Stack.{Stack}
 use Rattle.memory.specs.promises.Stack.{topFormed}
 use Rattle.memory.specs.promises.Steps.{fitsIn}

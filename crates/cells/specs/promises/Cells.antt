@@ -6,7 +6,7 @@ use mathlib.Core.List.{List, [], _∷_, _++_}
 use lib.Dec.{leb}
 use lib.IntN.{ℤ}
 use lib.ListN.{length, take, drop}
-use Rattle.plan.specs.Table.{Cell, Row}
+use Rattle.plan.specs.Table.{Cell, Row, rowsOf}
 
 -- as long as the shorter of the two
 abbrev pub cellsOf : List ℤ → List ℕ → List Cell
@@ -14,10 +14,12 @@ cellsOf [] labels = []
 cellsOf (value ∷ values) [] = []
 cellsOf (value ∷ values) (label ∷ labels) = record { value = value; label = label } ∷ cellsOf values labels
 
--- the cells of rows, one row after the other
-abbrev pub flat : List Row → List Cell
-flat [] = []
-flat (row ∷ rest) = row .cells ++ flat rest
+-- the row of so many columns whose first cell stands at a place, and the rows of a table of so many columns and rows from there on
+abbrev pub rowFrom : ℕ → List Cell → ℕ → Row
+rowFrom columns memory place = record { cells = take columns (drop place memory) }
+
+abbrev pub tableRows : ℕ → ℕ → List Cell → ℕ → List Row
+tableRows columns rows memory place = rowsOf columns rows (drop place memory)
 
 -- a row of so many columns
 abbrev pub Wide : ℕ → Row → Type 0

@@ -5,11 +5,10 @@ use mathlib.Core.Bool.{Bool, true, _&&_}
 use mathlib.Core.List.{List, [], _∷_}
 use lib.Dec.{ltb}
 use lib.ListN.{length, getD, drop}
-use Rattle.label.specs.WellFormed.{wellFormed}
+use Rattle.label_words.specs.WellFormed.{wellFormed}
 use Rattle.cells.specs.promises.Cells.{gridOf}
 use Rattle.cells.specs.promises.Search.{tableWithin}
-use Rattle.plan.specs.Sense.{Each}
-use Rattle.plan.specs.Table.{Cell, Row, Table}
+use Rattle.plan.specs.Table.{Cell, Row, Table, Each}
 
 -- whether every label of a column is well-formed
 abbrev pub columnFormed : ℕ → List (List ℕ) → Bool

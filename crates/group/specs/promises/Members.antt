@@ -1,19 +1,22 @@
 -- The rows of a table in memory, and which of them make a group.
-use Prim.Native.Nat.{ℕ, suc, _+_, _-_, _*_, _≤_, _<_}
+use Prim.Native.Nat.{ℕ, _+_, _-_, _*_, _≤_, _<_}
 use mathlib.Core.Path.{_≡_}
 use mathlib.Core.Bool.{true, false, cond}
-use mathlib.Core.List.{List, [], _∷_, _++_, map}
+use mathlib.Core.List.{List, [], _∷_, map}
 use lib.Dec.{eqb}
 use lib.IntN.{ℤ}
-use lib.ListN.{length, getD, take, drop}
+use lib.ListN.{length, getD, drop}
 use Rattle.group.specs.declared.Grouping.{Grouping}
-use Rattle.label.specs.Discharge.{forbidsA}
-use Rattle.label.specs.WellFormed.{wellFormed}
-use Rattle.cells.specs.promises.Cells.{gridOf}
+use Rattle.label_discharge.specs.Discharge.{forbidsA}
+use Rattle.label_words.specs.WellFormed.{wellFormed}
+use Rattle.accumulator.specs.promises.Accumulators.{single, withValues}
+use Rattle.accumulator.specs.declared.Accumulator.{Accumulator}
+use Rattle.cells.specs.promises.Cells.{cellsOf, rowFrom, tableRows}
+use Rattle.chains.specs.promises.Chains.{Chain}
 use Rattle.memory.specs.declared.LiveTable.{LiveTable}
-use Rattle.plan.specs.Group.{sameKeys}
-use Rattle.plan.specs.Table.{Cell, Row, cellAt, rowsOf}
-use Rattle.plan.specs.Verdict.{Verdict, refuseIf}
+use Rattle.plan.specs.Group.{composedAfter}
+use Rattle.plan.specs.Numbers.{aggregateCode}
+use Rattle.plan.specs.Table.{Each, Cell, Row, cellAt, rowsOf}
 use Rattle.plan.specs.declared.Aggregate.{Aggregate}
 
 -- the GROUP of a live table, which makes rows of a width
@@ -29,40 +32,18 @@ groupingOf table keys aggregate column width = record {
 }
 
 -- a table that lies within a slice of this length, with the column that is aggregated
-pub record Inside (g : Grouping) (length : ℕ) : Type 0 where
+pub record ColumnInside (g : Grouping) (length : ℕ) : Type 0 where
   pub few-rows : g .rows ≤ 256
   pub few-columns : g .columns ≤ 8
   pub has-column : g .column < g .columns
   pub within : g .at + g .rows * g .columns ≤ length
 
--- the table's labels
-abbrev pub gridIn : Grouping → List ℕ → List (List ℕ)
-gridIn g labels = gridOf (g .columns) (g .rows) (drop (g .at) labels)
-
--- 32 in one row
-abbrev pub forbidsAt : ℕ → ℕ → List ℕ → Verdict
-forbidsAt column row labels = refuseIf (forbidsA (getD labels column 0)) 32 row column
-
--- the row that begins at a place
-abbrev pub rowAt : ℕ → List Cell → ℕ → Row
-rowAt columns memory place = record { cells = take columns (drop place memory) }
-
 -- the table's rows, and one of them
-abbrev pub rowsIn : Grouping → List Cell → List Row
-rowsIn g memory = rowsOf (g .columns) (g .rows) (drop (g .at) memory)
+abbrev pub groupedRows : Grouping → List Cell → List Row
+groupedRows g memory = tableRows (g .columns) (g .rows) memory (g .at)
 
 abbrev pub rowOf : Grouping → List Cell → ℕ → Row
-rowOf g memory row = rowAt (g .columns) memory (g .at + row * g .columns)
-
--- the number of the first of the earlier rows with the keys of a row; where there is none, how many they are
-abbrev pub firstSame : ℕ → ℕ → Row → List Row → ℕ
-firstSame keys columns row [] = 0
-firstSame keys columns row (other ∷ rest) = cond (sameKeys keys columns other row) 0 (suc (firstSame keys columns row rest))
-
--- for each row the number of the first row with its keys
-abbrev pub leadersAfter : ℕ → ℕ → List Row → List Row → List ℕ
-leadersAfter keys columns earlier [] = []
-leadersAfter keys columns earlier (row ∷ rest) = firstSame keys columns row earlier ∷ leadersAfter keys columns (earlier ++ (row ∷ [])) rest
+rowOf g memory row = rowFrom (g .columns) memory (g .at + row * g .columns)
 
 -- the elements beside a number
 abbrev pub chosen : {A : Type 0} → ℕ → List ℕ → List A → List A
@@ -81,31 +62,6 @@ later g memory leaders row = chosen row (drop (row + 1) leaders) (rowsFrom g mem
 abbrev pub members : Grouping → List Cell → List ℕ → ℕ → List Row
 members g memory leaders row = rowOf g memory row ∷ later g memory leaders row
 
--- a list of the rows that lead groups, among those before a row
-pub record Leads (g : Grouping) (memory : List Cell) (row : ℕ) (leads : List ℕ) (count : ℕ) : Type 0 where
-  pub found : List ℕ
-  pub known : take row found ≡ leadersAfter (g .keys) (g .columns) [] (take row (rowsIn g memory))
-  pub lead : (i : ℕ) → i < count → getD found (getD leads i 0) 0 ≡ getD leads i 0
-  pub all : (other : ℕ) → other < row → getD found other 0 ≡ other → (i : ℕ) × (i < count) × (getD leads i 0 ≡ other)
-
--- the first row from one on that a number stands beside; where there is none, how many rows there are
-pub record FirstLed (rows : ℕ) (leaders : List ℕ) (number from at : ℕ) : Type 0 where
-  pub onward : from ≤ at
-  pub upto : at ≤ rows
-  pub led : at < rows → getD leaders at 0 ≡ number
-  pub none : (other : ℕ) → from ≤ other → other < at → getD leaders other 0 ≡ number → ⊥
-
--- for each row the next one with its leader
-pub record Chain (rows : ℕ) (leaders next : List ℕ) : Type 0 where
-  pub long : rows ≤ length leaders
-  pub each : (row : ℕ) → row < rows → FirstLed rows leaders (getD leaders row 0) (row + 1) (getD next row 0)
-
--- for each row a later one, or how many rows there are
-pub record Onward (rows : ℕ) (next : List ℕ) : Type 0 where
-  pub full : length next ≡ 256
-  pub further : (row : ℕ) → row < rows → row < getD next row 0
-  pub upto : (row : ℕ) → row < rows → getD next row 0 ≤ rows
-
 -- a label that an aggregate may be made of
 abbrev pub AllowedLabel : ℕ → Type 0
 AllowedLabel label = (wellFormed label ≡ true) × (forbidsA label ≡ false)
@@ -114,8 +70,21 @@ abbrev pub Allowed : ℕ → Row → Type 0
 Allowed column row = AllowedLabel (cellAt column row .label)
 
 -- the values of a column of rows, and the labels
-abbrev pub valuesIn : ℕ → List Row → List ℤ
-valuesIn column rows = map (λ cell. cell .value) (map (cellAt column) rows)
+abbrev pub columnValues : ℕ → List Row → List ℤ
+columnValues column rows = map (λ cell. cell .value) (map (cellAt column) rows)
 
-abbrev pub labelsIn : ℕ → List Row → List ℕ
-labelsIn column rows = map (λ cell. cell .label) (map (cellAt column) rows)
+abbrev pub columnLabels : ℕ → List Row → List ℕ
+columnLabels column rows = map (λ cell. cell .label) (map (cellAt column) rows)
+
+-- The group that a row leads, whatever stands in the other slice. Its values, accumulated:
+abbrev pub GroupValues : Grouping → List ℤ → List ℕ → ℕ → Accumulator → Type 0
+GroupValues g values next row all =
+    (leaders labels : List ℕ) → Chain (g .rows) leaders next → getD leaders row 0 ≡ row → ColumnInside g (length labels)
+    → all ≡ withValues (single (cellAt (g .column) (rowOf g (cellsOf values labels) row) .value)) (columnValues (g .column) (later g (cellsOf values labels) leaders row))
+
+-- its labels, each discharged over so many rows, composed in row order:
+abbrev pub GroupLabel : Grouping → List ℕ → List ℕ → ℕ → ℕ → ℕ → Type 0
+GroupLabel g labels next row size label =
+    (leaders : List ℕ) (values : List ℤ) → Chain (g .rows) leaders next → getD leaders row 0 ≡ row → ColumnInside g (length values)
+    → Each (Allowed (g .column)) (rowsFrom g (cellsOf values labels) row)
+    → label ≡ composedAfter (aggregateCode (g .aggregate)) size 0 (columnLabels (g .column) (members g (cellsOf values labels) leaders row))

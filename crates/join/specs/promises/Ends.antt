@@ -3,8 +3,8 @@ use Prim.Native.Nat.{ℕ, _≤_, _<_}
 use mathlib.Core.Path.{_≡_}
 use lib.ListN.{length, take}
 use Rattle.cells.specs.promises.Work.{Work, cellsIn, Kept}
-use Rattle.join.specs.declared.Side.{Side}
-use Rattle.join.specs.promises.Pairs.{width, allRows}
+use Rattle.pairs.specs.declared.Side.{Side}
+use Rattle.pairs.specs.promises.Pairs.{width, allRows}
 use Rattle.memory.specs.declared.LiveTable.{LiveTable}
 use Rattle.memory.specs.declared.Refusal.the-variants.{TooMany}
 use Rattle.memory.specs.declared.Stack.{Stack}

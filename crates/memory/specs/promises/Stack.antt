@@ -5,7 +5,7 @@ use mathlib.Core.Bool.{Bool, cond, _&&_}
 use mathlib.Core.List.{List, [], _∷_}
 use lib.Dec.{eqb, leb, ltb}
 use lib.ListN.{length, getD, take, drop}
-use Rattle.cells.specs.promises.Cells.{gridOf}
+use Rattle.cells.specs.promises.Cells.{gridOf, tableRows}
 use Rattle.cells.specs.promises.Labelled.{columnFormed}
 use Rattle.cells.specs.promises.Work.{Work, cellsIn, room, Kept}
 use Rattle.memory.specs.declared.LiveTable.{LiveTable}
@@ -68,7 +68,7 @@ liveTable stack below = cond (leb (stack .depth) 3 && ltb below (stack .depth)) 
 
 -- the rows that stand there, and their table
 abbrev pub rowsIn : Work → LiveTable → List Row
-rowsIn work table = rowsOf (table .columns) (table .rows) (drop (table .at) (cellsIn work))
+rowsIn work table = tableRows (table .columns) (table .rows) (cellsIn work) (table .at)
 
 abbrev pub tableOf : Work → LiveTable → Table
 tableOf work table = record { columns = table .columns; rows = rowsIn work table }

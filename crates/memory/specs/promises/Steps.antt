@@ -7,10 +7,10 @@ use lib.Dec.{eqb}
 use lib.ListN.{length, drop, take}
 use Rattle.cells.specs.promises.Search.{Reply, says, unfit}
 use Rattle.cells.specs.promises.Work.{Work, Kept}
-use Rattle.kinds.specs.declared.Width.{Width}
-use Rattle.kinds.specs.declared.Width.the-variants.{Columns, Misplaced}
+use Rattle.widths.specs.declared.Width.{Width}
+use Rattle.widths.specs.declared.Width.the-variants.{Columns, Misplaced}
 use Rattle.memory.specs.declared.Refusal.{Refusal}
-use Rattle.memory.specs.declared.Refusal.the-variants.{NotClear, Forbidden, OperandNotClear, TooMany}
+use Rattle.memory.specs.Refusals.{refusalTells}
 use Rattle.memory.specs.declared.Stack.{Stack}
 use Rattle.memory.specs.declared.StepAnswer.{StepAnswer}
 use Rattle.memory.specs.declared.StepAnswer.the-variants.{Made, Refused, DoesNotFit}
@@ -23,12 +23,9 @@ use Rattle.plan.specs.Verdict.{Verdict, fine, refused, orElse}
 use Rattle.plan.specs.Widths.{enoughTables, placed, madeColumns}
 use Rattle.plan.specs.declared.Step.{Step}
 
--- document 01's number, row and column of each refusal
+-- what each refusal says
 abbrev pub refusalSays : Refusal → Verdict
-refusalSays (NotClear row column) = refused 31 row column
-refusalSays (Forbidden row column) = refused 32 row column
-refusalSays (OperandNotClear row column) = refused 33 row column
-refusalSays TooMany = refused 34 256 0
+refusalSays refusal = refusalTells refused refusal
 
 -- and what each answer says
 abbrev pub stepSays : StepAnswer → Reply
@@ -59,13 +56,13 @@ abbrev pub fitsIn : Step → List Table → Work → Stack → Bool
 fitsIn step tables work stack = fits step (widthsOf tables) (length (work .values)) (length (work .labels)) stack
 
 -- the stack after a step that made a table: it stands where the lowest table taken stood, and none stands above it
-abbrev pub stackAfter : Step → Table → Stack → Stack
-stackAfter step made stack = withTable stack (stack .depth - takes step) (made .columns) (length (made .rows))
+abbrev pub stackMade : Step → Table → Stack → Stack
+stackMade step made stack = withTable stack (stack .depth - takes step) (made .columns) (length (made .rows))
 
 -- A step has made its table: the stack is fixed as a whole, and so are all its tables in memory; it still fits. The other elements that a run
 -- uses are free (`free`, in `step`).
 pub record TableMade (step : Step) (tables : List Table) (before : Work) (stack : Stack) (done : Stepped) (after : Work) : Type 0 where
-  pub stack-is : done .stack ≡ stackAfter step (make step tables (stackIn before stack)) stack
+  pub stack-is : done .stack ≡ stackMade step (make step tables (stackIn before stack)) stack
   pub tables-are : stackIn after (done .stack) ≡ make step tables (stackIn before stack) ∷ drop (takes step) (stackIn before stack)
   pub still : ready (length (after .values)) (length (after .labels)) (done .stack) ≡ true
 

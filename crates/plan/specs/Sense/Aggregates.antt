@@ -9,7 +9,7 @@ use lib.Signed.{_≤ℤ_}
 use Rattle.aggregate.specs.Aggregate.{exactSum}
 use Rattle.aggregate.specs.Sentences.{Floored}
 use Rattle.plan.specs.Group.{aggregateValue}
-use Rattle.plan.specs.Sense.{Each}
+use Rattle.plan.specs.Table.{Each}
 use Rattle.plan.specs.declared.Aggregate.{Aggregate}
 use Rattle.plan.specs.declared.Aggregate.the-variants.{Count, Sum, Min, Max, Avg}
 use Rattle.value.specs.Range.{inRange, OVER}

@@ -6,10 +6,9 @@ use mathlib.Core.List.{List, [], _∷_, _++_, map}
 use mathlib.Core.Logic.{_↔_}
 use Rattle.plan.specs.Masks.{inMask}
 use Rattle.plan.specs.Group.{sameKeys, groupsAfter, groupRow}
-use Rattle.plan.specs.Sense.{Each}
 use Rattle.plan.specs.Sense.Rows.{Sifted}
 use Rattle.plan.specs.Steps.{make}
-use Rattle.plan.specs.Table.{Row, Table, cellAt, top}
+use Rattle.plan.specs.Table.{Row, Table, cellAt, top, Each}
 use Rattle.plan.specs.declared.Aggregate.{Aggregate}
 use Rattle.plan.specs.declared.Step.the-variants.{Group}
 use Rattle.comparison.specs.Comparison.{same}

@@ -2,13 +2,12 @@
 use Prim.Native.Nat.{ℕ}
 use mathlib.Core.List.{List}
 use lib.ListN.{length}
-use Rattle.label.specs.Discharge.{afterA}
-use Rattle.label_order.specs.Order.{AsStrict}
+use Rattle.label_discharge.specs.Discharge.{afterA}
+use Rattle.label_laws.specs.Order.{AsStrict}
 use Rattle.plan.specs.Group.{groupRow}
 use Rattle.plan.specs.Keep.{keptCount}
 use Rattle.plan.specs.Numbers.{aggregateCode}
-use Rattle.plan.specs.Sense.{Each}
-use Rattle.plan.specs.Table.{Row, cellAt}
+use Rattle.plan.specs.Table.{Row, cellAt, Each}
 use Rattle.plan.specs.declared.Aggregate.{Aggregate}
 
 module _ (keys columns : ℕ) (aggregate : Aggregate) (column : ℕ) (group : List Row) where

@@ -6,7 +6,7 @@ use mathlib.Core.Bool.{true, false}
 use mathlib.Core.List.{List, [], map}
 use mathlib.Core.Logic.{_⊎_}
 use lib.ListN.{length, getD}
-use Rattle.label.specs.Discharge.{forbidsT, forbidsA}
+use Rattle.label_discharge.specs.Discharge.{forbidsT, forbidsA}
 use Rattle.plan.specs.Masks.{inMask}
 use Rattle.plan.specs.Evaluate.{checkRelease}
 use Rattle.plan.specs.Steps.{check}
@@ -22,39 +22,39 @@ use Rattle.plan.specs.declared.Transform.the-variants.{Add, Sub, Cut, Ba
 use Rattle.value.specs.Range.{inRange}
 
 -- a refusal: its number, and its row and column
-pub record Place : Type 0 where
+pub record RefusalPlace : Type 0 where
   pub number : ℕ
   pub row : ℕ
   pub column : ℕ
 
-abbrev pub place : ℕ → ℕ → ℕ → Place
+abbrev pub place : ℕ → ℕ → ℕ → RefusalPlace
 place number row column = record { number = number; row = row; column = column }
 
 -- A check is fine where no place fails. Else it refuses at a place that fails, and no place before it does.
-pub data FirstAt (Before : Place → Place → Type 0) (Fails : Place → Type 0) : Verdict → Type 0 where
-  nowhere : ((p : Place) → ¬ Fails p) → FirstAt Before Fails fine
-  at : {number row column : ℕ} → Fails (place number row column) → ((p : Place) → Before p (place number row column) → ¬ Fails p)
+pub data FirstAt (Before : RefusalPlace → RefusalPlace → Type 0) (Fails : RefusalPlace → Type 0) : Verdict → Type 0 where
+  nowhere : ((p : RefusalPlace) → ¬ Fails p) → FirstAt Before Fails fine
+  at : {number row column : ℕ} → Fails (place number row column) → ((p : RefusalPlace) → Before p (place number row column) → ¬ Fails p)
       → FirstAt Before Fails (refused number row column)
 
 -- "row by row, left to right"
-abbrev pub RowByRow : Place → Place → Type 0
+abbrev pub RowByRow : RefusalPlace → RefusalPlace → Type 0
 RowByRow p q = (p .row < q .row) ⊎ ((p .row ≡ q .row) × (p .column < q .column))
 
 -- all places of one number before those of the next
-abbrev pub NumberByNumber : Place → Place → Type 0
+abbrev pub NumberByNumber : RefusalPlace → RefusalPlace → Type 0
 NumberByNumber p q = (p .number < q .number) ⊎ ((p .number ≡ q .number) × RowByRow p q)
 
 -- row by row, and in each row one number before the next
-abbrev pub InEachRow : Place → Place → Type 0
+abbrev pub InEachRow : RefusalPlace → RefusalPlace → Type 0
 InEachRow p q = (p .row < q .row) ⊎ ((p .row ≡ q .row) × (p .number < q .number))
 
 -- the row of a table, and one of no cells where there is none
-abbrev pub rowAt : ℕ → Table → Row
-rowAt row table = getD (table .rows) row (record { cells = [] })
+abbrev pub rowIn : ℕ → Table → Row
+rowIn row table = getD (table .rows) row (record { cells = [] })
 
 -- the cell in a row and a column, and a clear one where there is none
 abbrev pub cellIn : Table → ℕ → ℕ → Cell
-cellIn table row column = cellAt column (rowAt row table)
+cellIn table row column = cellAt column (rowIn row table)
 
 abbrev pub NotClear : Table → ℕ → ℕ → Type 0
 NotClear table row column = clear (cellIn table row column .label) ≡ false
@@ -66,7 +66,7 @@ abbrev pub OperandColumn : Operand → ℕ → Type 0
 OperandColumn (Constant value) column = ⊥
 OperandColumn (Column other) column = column ≡ other
 
-abbrev pub FilterFails : ℕ → Operand → Table → Place → Type 0
+abbrev pub FilterFails : ℕ → Operand → Table → RefusalPlace → Type 0
 FilterFails column operand table p =
     (p .number ≡ 31) × ((p .column ≡ column) ⊎ OperandColumn operand (p .column)) × NotClear table (p .row) (p .column)
 
@@ -75,7 +75,7 @@ FilterRefusal = (column : ℕ) (comparison : Comparison) (operand : Operand) (st
     → FirstAt RowByRow (FilterFails column operand (top stack)) (check (Filter column comparison operand) (map grid stack))
 
 -- "Right rows of a JOIN are numbered on from the left."
-abbrev pub JoinFails : ℕ → ℕ → Table → Table → Place → Type 0
+abbrev pub JoinFails : ℕ → ℕ → Table → Table → RefusalPlace → Type 0
 JoinFails a b left right p =
     (p .number ≡ 31)
     × (((p .column ≡ a) × NotClear left (p .row) (p .column))
@@ -85,7 +85,7 @@ abbrev pub JoinRefusal : Type 0
 JoinRefusal = (a b : ℕ) (stack : List Table) → FirstAt RowByRow (JoinFails a b (second stack) (top stack)) (check (Join a b) (map grid stack))
 
 -- "32: .. GROUP forbidden by the first operand's label. In GROUP, after all keys."
-abbrev pub GroupFails : ℕ → ℕ → Table → Place → Type 0
+abbrev pub GroupFails : ℕ → ℕ → Table → RefusalPlace → Type 0
 GroupFails keys column table p =
     ((p .number ≡ 31) × (inMask keys (p .column) ≡ true) × NotClear table (p .row) (p .column))
     ⊎ ((p .number ≡ 32) × (p .column ≡ column) × (forbidsA (cellIn table (p .row) (p .column) .label) ≡ true))
@@ -102,7 +102,7 @@ SecondColumn (Sub operand) column = OperandColumn operand column
 SecondColumn (Cut digits) column = ⊥
 SecondColumn (Band width) column = ⊥
 
-abbrev pub ApplyFails : ℕ → Transform → Table → Place → Type 0
+abbrev pub ApplyFails : ℕ → Transform → Table → RefusalPlace → Type 0
 ApplyFails column transform table p =
     ((p .number ≡ 32) × (p .column ≡ column) × (forbidsT (cellIn table (p .row) (p .column) .label) ≡ true))
     ⊎ ((p .number ≡ 33) × SecondColumn transform (p .column) × NotClear table (p .row) (p .column))
@@ -113,10 +113,10 @@ ApplyRefusal = (column : ℕ) (transform : Transform) (stack : List Table)
 
 -- ---- "35: at release a cell has a stage left. 36: no 35, but a cell is OVER."
 
-abbrev pub ReleaseFails : Table → Place → Type 0
+abbrev pub ReleaseFails : Table → RefusalPlace → Type 0
 ReleaseFails table p =
     ((p .number ≡ 35) × NotClear table (p .row) (p .column))
-    ⊎ ((p .number ≡ 36) × (p .column < length (rowAt (p .row) table .cells)) × (inRange (cellIn table (p .row) (p .column) .value) ≡ false))
+    ⊎ ((p .number ≡ 36) × (p .column < length (rowIn (p .row) table .cells)) × (inRange (cellIn table (p .row) (p .column) .value) ≡ false))
 
 abbrev pub ReleaseRefusal : Type 0
 ReleaseRefusal = (table : Table) → FirstAt NumberByNumber (ReleaseFails table) (checkRelease table)

@@ -3,8 +3,8 @@ use Prim.Native.Nat.{ℕ, _+_}
 use mathlib.Core.Path.{_≡_}
 use mathlib.Core.List.{List, [], _∷_, _++_}
 use lib.ListN.{length, drop}
-use Rattle.label.specs.Stages.{one}
-use Rattle.label.specs.Word.{hasH, hasT, hasA, hasN}
+use Rattle.label_words.specs.Stages.{one}
+use Rattle.label_words.specs.Word.{hasH, hasT, hasA, hasN}
 use Rattle.plan.specs.Evaluate.{evaluate}
 use Rattle.plan.specs.Numbers.{kindOf}
 use Rattle.plan.specs.Steps.{takes, make}
@@ -29,12 +29,12 @@ pub record Figures (step : Step) (made : Table) (line : Line) : Type 0 where
   pub stages : line .stages ≡ total (λ row. total (λ cell. stagesPresent (cell .label)) (row .cells)) (made .rows)
 
 -- the stack that steps leave
-abbrev pub stackAfter : List Table → List Table → List Step → List Table
-stackAfter tables stack [] = stack
-stackAfter tables stack (step ∷ later) = stackAfter tables (make step tables stack ∷ drop (takes step) stack) later
+abbrev pub stackLeft : List Table → List Table → List Step → List Table
+stackLeft tables stack [] = stack
+stackLeft tables stack (step ∷ later) = stackLeft tables (make step tables stack ∷ drop (takes step) stack) later
 
 -- a line with as many lines before it as a step has steps has the figures of the table that the step makes on the stack that those leave
 abbrev pub TraceLines : Type 0
 TraceLines = (tables : List Table) (earlier : List Step) (step : Step) (later : List Step) (lines : List Line) (line : Line) (rest : List Line)
     → evaluate (earlier ++ (step ∷ later)) tables .trace ≡ lines ++ (line ∷ rest) → length lines ≡ length earlier
-    → Figures step (make step tables (stackAfter tables [] earlier)) line
+    → Figures step (make step tables (stackLeft tables [] earlier)) line

@@ -5,11 +5,11 @@ use mathlib.Core.List.{List}
 use lib.Dec.{leb}
 use lib.ListN.{length}
 use Rattle.container.specs.Contents.{tablesOf}
-use Rattle.container.specs.Layout.{partOf}
-use Rattle.container.specs.TablePart.{columnsOf, rowCount, cellCount}
-use Rattle.memory.specs.promises.Steps.{fits, widthsOf}
+use Rattle.layout.specs.Layout.{partOf}
 use Rattle.memory.specs.declared.Stack.{Stack}
+use Rattle.memory.specs.promises.Steps.{fits, widthsOf}
 use Rattle.plan.specs.declared.Step.the-variants.{Scan}
+use Rattle.table_part.specs.TablePart.{columnsOf, rowCount, cellCount}
 
 -- a table part of at most 8 columns and 256 rows, with the bytes of all its cells
 abbrev pub cellsFit : List ℕ → Bool

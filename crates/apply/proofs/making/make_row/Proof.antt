@@ -1,9 +1,7 @@
 -- `apply::making::make_row` meets its contract. Assumes nothing.
-use Prim.Native.Nat.{_-_}
 use native.Mathlib.Omega.{arith}
 use lib.ListN.{length}
 use borrow.Author.Needs.{needs}
-use Rattle.apply.proofs.Operands.{transform-more}
 use Rattle.apply.proofs.RowMade.{row-made}
 use Rattle.cells.specs.promises.Work.{work}
 use Rattle.cells.proofs.CellLaws.{values-moved, labels-moved}
@@ -14,10 +12,7 @@ use Rattle.apply.proofs.making.make_row.Tie as tie
 use denote.Ref.{now}
 
 new-value-requires : tie.Need-new-value-requires
-new-value-requires c κs =
-    let a = c .before .before .args in
-    let p = c .before .before .pre in
-    (omega (arith, p .0, p .1 .0), transform-more (a .transform) (a .columns) (length (now (a .values)) - a .from) (omega (arith, p .0)) (p .1 .1))
+new-value-requires c κs = let p = c .before .before .pre in omega (arith, p .0, p .1 .0)
 
 add-new-label : tie.Need-add-new-label
 add-new-label c = search needs

@@ -1,5 +1,4 @@
 -- `apply::making::make_table` meets its contract. Assumes nothing.
-use denote.Ref.{now}
 use borrow.Author.Needs.{needs}
 use Rattle.cells.specs.promises.Work.{work}
 use Rattle.cells.proofs.CellLaws.{values-moved, labels-moved}

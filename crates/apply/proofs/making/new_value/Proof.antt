@@ -19,7 +19,7 @@ enum-known-transform : tie.Need-enum-known-transform
 enum-known-transform c = search needs
 
 operand-at-requires : tie.Need-operand-at-requires
-operand-at-requires c κs = rw (c .before .transform .given .1) at (c .before .before .before .before .pre .1)
+operand-at-requires c κs = search needs
 
 plus-requires : tie.Need-plus-requires
 plus-requires c κs = search needs
@@ -28,7 +28,7 @@ enum-known-transform-2 : tie.Need-enum-known-transform-2
 enum-known-transform-2 c = search needs
 
 operand-at-requires-2 : tie.Need-operand-at-requires-2
-operand-at-requires-2 c κs = rw (c .before .transform2 .given .1) at (c .before .before .before .before .pre .1)
+operand-at-requires-2 c κs = search needs
 
 minus-requires : tie.Need-minus-requires
 minus-requires c κs = search needs

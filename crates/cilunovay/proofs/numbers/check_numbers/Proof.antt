@@ -1,8 +1,8 @@
 -- `cilunovay::numbers::check_numbers` meets its contract. Assumes nothing.
-use mathlib.Core.Path.{sym, ap}
-use native.Mathlib.Omega.{arith}
-use Rattle.container.specs.Check.{said}
-use Rattle.container.specs.declared.Check.{Check}
+use mathlib.Core.Path.{sym, ap, _∙_}
+use Rattle.cilunovay.proofs.Told.{check-told}
+use Rattle.input.specs.Answers.{inputSays}
+use Rattle.input.specs.declared.InputCheck.{InputCheck}
 use Rattle.demands.specs.Calls.{checkNumbersOf}
 use borrow.Author.Needs.{needs}
 use Rattle.cilunovay.proofs.numbers.check_numbers.Statement.{statement}
@@ -11,84 +11,18 @@ use Rattle.cilunovay.proofs.numbers.check_numbers.Tie as tie
 enum-told : tie.Need-enum-told
 enum-told c = search needs
 
-enum-told-2 : tie.Need-enum-told-2
-enum-told-2 c = search needs
-
 enum-known-check : tie.Need-enum-known-check
 enum-known-check c = search needs
 
-enum-known-check-2 : tie.Need-enum-known-check-2
-enum-known-check-2 c = search needs
-
-enum-known-check-3 : tie.Need-enum-known-check-3
-enum-known-check-3 c = search needs
-
-enum-known-check-4 : tie.Need-enum-known-check-4
-enum-known-check-4 c = search needs
-
-enum-known-check-5 : tie.Need-enum-known-check-5
-enum-known-check-5 c = search needs
-
-enum-known-check-6 : tie.Need-enum-known-check-6
-enum-known-check-6 c = search needs
-
-enum-known-check-7 : tie.Need-enum-known-check-7
-enum-known-check-7 c = search needs
-
-enum-known-check-8 : tie.Need-enum-known-check-8
-enum-known-check-8 c = search needs
+input-numbers-requires : tie.Need-input-numbers-requires
+input-numbers-requires c κs = search needs
 
 returns : tie.Need-returns
 returns c = search needs
 
 returns-2 : tie.Need-returns-2
-returns-2 c = search needs
-
-returns-3 : tie.Need-returns-3
-returns-3 c = (sym (ap (λ (k : Check). checkNumbersOf (said k)) (c .before .check .given .1)), omega arith)
-
-returns-4 : tie.Need-returns-4
-returns-4 c = (sym (ap (λ (k : Check). checkNumbersOf (said k)) (c .before .check2 .given .1)), omega arith)
-
-returns-5 : tie.Need-returns-5
-returns-5 c = (sym (ap (λ (k : Check). checkNumbersOf (said k)) (c .before .check3 .given .1)), omega arith)
-
-returns-6 : tie.Need-returns-6
-returns-6 c = (sym (ap (λ (k : Check). checkNumbersOf (said k)) (c .before .check4 .given .1)), omega arith)
-
-returns-7 : tie.Need-returns-7
-returns-7 c = (sym (ap (λ (k : Check). checkNumbersOf (said k)) (c .before .check5 .given .1)), omega arith)
-
-returns-8 : tie.Need-returns-8
-returns-8 c = (sym (ap (λ (k : Check). checkNumbersOf (said k)) (c .before .check6 .given .1)), omega arith)
-
-returns-9 : tie.Need-returns-9
-returns-9 c = (sym (ap (λ (k : Check). checkNumbersOf (said k)) (c .before .check7 .given .1)), omega arith)
-
-returns-10 : tie.Need-returns-10
-returns-10 c = (sym (ap (λ (k : Check). checkNumbersOf (said k)) (c .before .check8 .given .1)), omega arith)
+returns-2 c = (c .input-numbers .ensures .0 ∙ check-told (c .before .before .check .given .0 .0) ∙ sym (ap (λ (k : InputCheck). checkNumbersOf (inputSays k)) (c .before .before .check .given .1)), c .input-numbers .ensures .1)
 
 pub check-numbers-spec : {M : Type 1} → statement M
 check-numbers-spec =
-    tie.close
-    (tie.spec
-    enum-told
-    enum-told-2
-    enum-known-check
-    enum-known-check-2
-    enum-known-check-3
-    enum-known-check-4
-    enum-known-check-5
-    enum-known-check-6
-    enum-known-check-7
-    enum-known-check-8
-    returns
-    returns-2
-    returns-3
-    returns-4
-    returns-5
-    returns-6
-    returns-7
-    returns-8
-    returns-9
-    returns-10)
+    tie.close (tie.spec enum-told enum-known-check input-numbers-requires returns returns-2)

@@ -2,6 +2,7 @@
 use native.Mathlib.Omega.{arith}
 use lib.ListN.{length-set}
 use denote.Ref.{now}
+use Rattle.demands.specs.Given.{given}
 use Rattle.demands.specs.Lent.{lent}
 use Rattle.cilunovay.proofs.CallMeaning.{run-short, run-long}
 use borrow.Author.Needs.{needs}
@@ -11,7 +12,7 @@ use Rattle.cilunovay.proofs.run.cilunovay_run.Tie as tie
 returns : tie.Need-returns
 returns c =
     let a = c .before .before .before .before .before .args in
-    run-short (now (a .container)) (lent (now (a .values)) (now (a .labels)) (now (a .output)) (now (a .trace))) (now (a .answer)) (c .if1 .taken)
+    run-short (given (now (a .container))) (lent (now (a .values)) (now (a .labels)) (now (a .output)) (now (a .trace))) (now (a .answer)) (c .if1 .taken)
 
 run-requires : tie.Need-run-requires
 run-requires c κs = search needs
@@ -67,7 +68,7 @@ same-length-5 c = search needs
 returns-2 : tie.Need-returns-2
 returns-2 c =
     let a = c .before .before .before .before .before .before .before .before .before .before .before .before .before .before .before .before .before .args in
-    run-long (now (a .container)) (lent (now (a .values)) (now (a .labels)) (now (a .output)) (now (a .trace))) (now (a .answer)) (c .before .before .before .before .before .before .before .before .before .before .before .before .if1 .left)
+    run-long (given (now (a .container))) (lent (now (a .values)) (now (a .labels)) (now (a .output)) (now (a .trace))) (now (a .answer)) (c .before .before .before .before .before .before .before .before .before .before .before .before .if1 .left)
     (c .before .before .before .before .before .before .before .run .ensures) (c .run-numbers .ensures .0)
 
 pub cilunovay-run-spec : {M : Type 1} → statement M

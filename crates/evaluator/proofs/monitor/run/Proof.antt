@@ -1,54 +1,36 @@
 -- `evaluator::monitor::run` meets its contract. Assumes nothing.
-use mathlib.Core.Path.{_≡_, sym, _∙_}
-use mathlib.Core.Bool.{true}
-use lib.ListN.{length}
+use mathlib.Core.Path.{_≡_, subst, _∙_}
+use mathlib.Core.Logic.{⊎-elim}
 use denote.Ref.{now}
-use borrow.Author.Tests.{not-true, not-false}
-use Rattle.container.specs.Check.{accepted, checkInput}
-use Rattle.demands.specs.Lent.{longEnough}
-use Rattle.evaluator.proofs.RunMeaning.{run-short, run-input, run-begun, lengths, accepted-is}
 use borrow.Author.Needs.{needs}
+use Rattle.cells.specs.promises.Work.{work}
+use Rattle.demands.specs.Given.{given}
+use Rattle.evaluator.specs.Answers.{runSays}
+use Rattle.walk.specs.declared.WalkAnswer.{WalkAnswer}
+use Rattle.walk.specs.promises.Walk.{Walked}
+use Rattle.evaluator.proofs.RunMeaning.{output-short, work-short, input-refused, Evaluated, step-refused, steps-finished, still-long, run-begun}
 use Rattle.evaluator.proofs.monitor.run.Statement.{statement}
 use Rattle.evaluator.proofs.monitor.run.Tie as tie
 
-long-enough-requires : tie.Need-long-enough-requires
-long-enough-requires c κs = search needs
+-- the walk, and what stands before it
+abbrev start : tie.After-walk → tie.Start
+start c = c .before .before .before .before .before .before .before .before
+
+walked : (c : tie.After-walk) {answer : WalkAnswer} → c .walk .result ≡ answer → let a = start c .args in
+    Walked (given (now (a .container))) (work (now (a .values)) (now (a .labels))) (now (a .trace)) answer (work (c .walk .last .1 .0) (c .walk .last .1 .1 .0)) (c .walk .last .1 .1 .1 .0)
+walked c e = let a = start c .args in
+    subst (λ (r : WalkAnswer). Walked (given (now (a .container))) (work (now (a .values)) (now (a .labels))) (now (a .trace)) r (work (c .walk .last .1 .0) (c .walk .last .1 .1 .0)) (c .walk .last .1 .1 .1 .0)) e (c .walk .ensures)
 
 returns : tie.Need-returns
 returns c =
-    let a = c .before .before .before .before .before .args in
-    run-short (now (a .container)) (now (a .values)) (now (a .labels)) (now (a .output)) (now (a .trace)) (sym (c .before .long-enough .ensures) ∙ not-true _ (c .if1 .taken))
+    let a = c .before .before .before .before .args in
+    output-short (given (now (a .container))) (now (a .values)) (now (a .labels)) (now (a .output)) (now (a .trace)) (c .if1 .taken)
 
-check-input-requires : tie.Need-check-input-requires
-check-input-requires c κs = search needs
+walk-requires : tie.Need-walk-requires
+walk-requires c κs = search needs
 
-is-accepted-requires : tie.Need-is-accepted-requires
-is-accepted-requires c κs = search needs
-
-input-refusal-requires : tie.Need-input-refusal-requires
-input-refusal-requires c κs = sym (c .before .is-accepted .ensures) ∙ not-true _ (c .if2 .taken)
-
--- the slices are long enough
-long : (c : tie.Else1) → let a = c .before .before .before .before .before .args in longEnough (length (now (a .values))) (length (now (a .labels))) (length (now (a .output))) (length (now (a .trace))) ≡ true
-long c = sym (c .before .long-enough .ensures) ∙ not-false _ (c .if1 .left)
-
--- the container is accepted
-checked : (c : tie.Else2) → checkInput (now (c .before .before .before .before .before .before .before .before .args .container)) ≡ accepted
-checked c = accepted-is (now (c .before .before .before .before .before .before .before .before .args .container)) (c .before .before .check-input .ensures) (sym (c .before .is-accepted .ensures) ∙ not-false _ (c .if2 .left))
-
-returns-2 : tie.Need-returns-2
-returns-2 c =
-    let a = c .before .before .before .before .before .before .before .before .before .args in
-    run-input (now (a .container)) (now (a .values)) (now (a .labels)) (now (a .output)) (now (a .trace)) (long (c .before .before .before .before))
-    (c .before .before .before .check-input .ensures) (sym (c .before .before .is-accepted .ensures) ∙ not-true _ (c .before .if2 .taken)) (c .input-refusal .ensures)
-
-evaluate-requires : tie.Need-evaluate-requires
-evaluate-requires c κs =
-    let n = lengths _ _ _ _ (long (c .before .before .before .before .before .before .before)) in
-    (checked (c .before .before .before .before), n .0, n .1, n .2, n .3)
-
-clear-memory-requires : tie.Need-clear-memory-requires
-clear-memory-requires c κs = search needs
+enum-told : tie.Need-enum-told
+enum-told c = search needs
 
 same-length : tie.Need-same-length
 same-length c = search needs
@@ -59,32 +41,103 @@ same-length-2 c = search needs
 same-length-3 : tie.Need-same-length-3
 same-length-3 c = search needs
 
+returns-2 : tie.Need-returns-2
+returns-2 c =
+    let k = c .before .before .before .before .before .before .before in
+    let a = start k .args in
+    work-short (given (now (a .container))) (now (a .values)) (now (a .labels)) (now (a .output)) (now (a .trace)) (k .before .before .before .before .if1 .left) (walked k (c .enum-told .given .1))
+
+enum-known-refusal : tie.Need-enum-known-refusal
+enum-known-refusal c = search needs
+
 same-length-4 : tie.Need-same-length-4
 same-length-4 c = search needs
 
+same-length-5 : tie.Need-same-length-5
+same-length-5 c = search needs
+
+same-length-6 : tie.Need-same-length-6
+same-length-6 c = search needs
+
 returns-3 : tie.Need-returns-3
 returns-3 c =
-    let accepting = c .before .before .before .before .before .before .before .before .before .before .before .before .before .before .before .before .before in
-    let a = accepting .before .before .before .before .before .before .before .before .args in
-    let e = c .before .before .before .before .before .before .before .before .before .before .before .before .evaluate .ensures in
+    let k = c .before .before .before .before .before .before .before .before in
+    let a = start k .args in
+    input-refused (given (now (a .container))) (now (a .values)) (now (a .labels)) (now (a .output)) (now (a .trace)) (k .before .before .before .before .if1 .left) (c .before .refusal .given .0 .0) (walked k (c .before .refusal .given .1))
+
+enum-known-step : tie.Need-enum-known-step
+enum-known-step c = search needs
+
+enum-known-steps : tie.Need-enum-known-steps
+enum-known-steps c = search needs
+
+released-requires : tie.Need-released-requires
+released-requires c κs =
+    let m = c .before .before .before .before in
+    let k = m .before .before .before .before .before .before .before in
+    let a = start k .args in
+    let w = walked k (m .steps .given .1) in
+    let n = still-long (given (now (a .container))) (now (a .values)) (now (a .labels)) (now (a .output)) (now (a .trace)) (k .before .before .before .before .if1 .left) (w .0) in
+    (w .1 .few-rows, w .1 .few-columns, n .0, n .1, k .before .before .before .before .if1 .left)
+
+-- the arms meet
+evaluated : (c : tie.At-match-came) → let k = c .before .before .before .before .before .before in let a = start k .args in
+    Evaluated (given (now (a .container))) (work (now (a .values)) (now (a .labels))) (now (a .output)) (now (a .trace)) (runSays (c .match .answer))
+    (work (k .walk .last .1 .0) (k .walk .last .1 .1 .0)) (c .match .output) (k .walk .last .1 .1 .1 .0)
+evaluated c =
+    let k = c .before .before .before .before .before .before in
+    let a = start k .args in
+    let long = k .before .before .before .before .if1 .left in
+    ⊎-elim
+    (λ w. rw (w .3, w .4) (step-refused (given (now (a .container))) (now (a .values)) (now (a .labels)) (now (a .output)) (now (a .trace)) long (w .1 .given .0 .0) (w .1 .given .0 .1 .0) (walked k (w .1 .given .1))))
+    (λ w. rw (w .8, w .9) (steps-finished (given (now (a .container))) (now (a .values)) (now (a .labels)) (now (a .output)) (now (a .trace)) long _ _ _ (walked k (w .1 .given .1)) (w .6 .ensures .0) (w .6 .ensures .1)))
+    (c .match .came)
+
+clear-memory-requires : tie.Need-clear-memory-requires
+clear-memory-requires c κs = search needs
+
+same-length-7 : tie.Need-same-length-7
+same-length-7 c = search needs
+
+same-length-8 : tie.Need-same-length-8
+same-length-8 c = search needs
+
+same-length-9 : tie.Need-same-length-9
+same-length-9 c = ⊎-elim (λ w. search needs) (λ w. search needs) (c .before .before .before .before .before .before .match .came)
+
+same-length-10 : tie.Need-same-length-10
+same-length-10 c = search needs
+
+returns-4 : tie.Need-returns-4
+returns-4 c =
+    let m = c .before .before .before .before .before .before in
+    let k = m .before .before .before .before .before .before in
+    let a = start k .args in
     let z = c .before .before .before .clear-memory .ensures in
-    run-begun (now (a .container)) (now (a .values)) (now (a .labels)) (now (a .output)) (now (a .trace)) (long (accepting .before .before .before)) (checked accepting)
-    (e .0) (e .1 .0) (e .1 .1 .0) (e .1 .1 .1) (z .0) (z .1 .0) (z .1 .1)
+    run-begun (given (now (a .container))) (now (a .values)) (now (a .labels)) (now (a .output)) (now (a .trace)) (k .before .before .before .before .if1 .left) (evaluated m) (z .told) (z .values) (z .labels)
 
 pub run-spec : {M : Type 1} → statement M
 run-spec =
     tie.close
     (tie.spec
-    long-enough-requires
     returns
-    check-input-requires
-    is-accepted-requires
-    input-refusal-requires
-    returns-2
-    evaluate-requires
-    clear-memory-requires
+    walk-requires
+    enum-told
     same-length
     same-length-2
     same-length-3
+    returns-2
+    enum-known-refusal
     same-length-4
-    returns-3)
+    same-length-5
+    same-length-6
+    returns-3
+    enum-known-step
+    enum-known-steps
+    released-requires
+    clear-memory-requires
+    same-length-7
+    same-length-8
+    same-length-9
+    same-length-10
+    returns-4)

@@ -14,7 +14,7 @@ use Rattle.plan.specs.Widths.{columnsExist, madeColumns}
 use Rattle.plan.specs.declared.Step.the-variants.{Filter}
 use Rattle.memory.proofs.Finish.{unfit-done, columns-fit, columns-misfit}
 use Rattle.filter.proofs.FilterMeaning.{FilterFits, filter-parts, filter-refused, filter-fits-still, filter-made}
-use Rattle.filter.proofs.Widths.{operand-more}
+use Rattle.operand.proofs.Laws.{operand-more}
 use Rattle.filter.proofs.filtering.filter.Statement.{statement}
 use Rattle.filter.proofs.filtering.filter.Tie as tie
 

@@ -1,15 +1,13 @@
 -- `filter::filtering::filter_rows` meets its contract. Assumes nothing.
-use Prim.Native.Nat.{_+_, _-_}
+use Prim.Native.Nat.{_-_}
 use mathlib.Core.Path.{_≡_}
 use mathlib.Core.Logic.{⊎-elim}
 use native.Mathlib.Omega.{arith}
-use lib.ListN.{length}
 use borrow.Author.Needs.{needs}
 use Rattle.cells.specs.promises.Work.{work}
 use Rattle.plan.specs.Filter.{passes}
 use Rattle.cells.proofs.CellLaws.{values-moved, labels-moved}
 use Rattle.filter.proofs.FilterLoop.{places, values-reach, in-values, in-labels, passed, failed, Filtering, filter-begins}
-use Rattle.filter.proofs.Widths.{operand-more}
 use Rattle.filter.proofs.filtering.filter_rows.Statement.{statement}
 use Rattle.filter.proofs.filtering.filter_rows.Tie as tie
 
@@ -35,7 +33,7 @@ passes-requires c κs =
     let t = c .before in
     let l = turn t .loop in
     let reach = values-reach (start t .pre .0) (l .inv) (t .if1 .taken) in
-    (omega (arith, reach, start t .pre .1 .0), operand-more (start t .args .operand) _ (length (l .values) - l .from) (omega (arith, reach)) (start t .pre .1 .1))
+    omega (arith, reach, start t .pre .1 .0)
 
 move-cells-requires : tie.Need-move-cells-requires Inv-loop μ-loop
 move-cells-requires c κs = search needs

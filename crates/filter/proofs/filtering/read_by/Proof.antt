@@ -2,7 +2,7 @@
 use native.Mathlib.Omega.{arith}
 use borrow.Author.Needs.{needs}
 use Rattle.cells.proofs.Masks.{one-column, two-columns}
-use Rattle.filter.proofs.Widths.{column-below}
+use Rattle.operand.proofs.Laws.{column-below}
 use Rattle.filter.proofs.filtering.read_by.Statement.{statement}
 use Rattle.filter.proofs.filtering.read_by.Tie as tie
 

@@ -6,26 +6,26 @@ use native.Mathlib.Omega.{arith}
 use lib.IntN.{ℤ}
 use lib.ListN.{length, getD, drop}
 use borrow.Author.Needs.{needs}
-use Rattle.group.specs.promises.Members.{rowAt, chosen, Allowed, Chain, Onward}
-use Rattle.group.specs.promises.Members.{labelsIn}
-use Rattle.label.specs.Composition.{composed}
-use Rattle.label.specs.Discharge.{afterA}
-use Rattle.cells.specs.promises.Cells.{cellsOf}
+use Rattle.chains.specs.promises.Chains.{Chain, Onward}
+use Rattle.group.specs.promises.Members.{chosen, Allowed, columnLabels}
+use Rattle.label_composition.specs.Composition.{composed}
+use Rattle.label_discharge.specs.Discharge.{afterA}
+use Rattle.cells.specs.promises.Cells.{cellsOf, rowFrom}
 use Rattle.plan.specs.Group.{composedAfter}
-use Rattle.plan.specs.Sense.{Each}
-use Rattle.plan.specs.Table.{rowsOf, cellAt}
+use Rattle.plan.specs.Table.{Each, rowsOf, cellAt}
 use Rattle.group.proofs.Choosing.{next-led, next-left, member-next, each-chosen}
-use Rattle.group.proofs.Labels.{Composing, none-composed, label-taken, few-codes}
-use Rattle.group.proofs.Leading.{rows-next}
-use Rattle.group.proofs.Reading.{label-read}
+use Rattle.group.proofs.Labels.{Composing, none-composed, label-taken}
+use Rattle.group_refusal.proofs.Laws.{few-codes}
+use Rattle.chains.proofs.Leading.{rows-next}
+use Rattle.chains.proofs.Reading.{label-read}
 use Rattle.group.proofs.Walking.{walk-from, walk-to, inside-other}
 use Rattle.cells.proofs.Columns.{Walking, inside}
-use Rattle.label.proofs.Laws.{zero-well-formed}
+use Rattle.label_laws.proofs.Laws.{zero-well-formed}
 use Rattle.group.proofs.labelling.group_label.Statement.{statement}
 use Rattle.group.proofs.labelling.group_label.Tie as tie
 
 abbrev Inv-loop : tie.InvT-loop
-Inv-loop labels next row size rows columns column at code first all₀ other₀ all other = Walking (length labels) at rows columns column other (at + other * columns) × (row < other) × Onward rows next × (code < 5) × ((leaders : List ℕ) (values : List ℤ) → Chain rows leaders next → getD leaders row 0 ≡ row → at + rows * columns ≤ length values → Each (Allowed column) (rowsOf columns (rows - row) (drop (at + row * columns) (cellsOf values labels))) → (other < rows → getD leaders other 0 ≡ row) × Composing code size column (composedAfter code size 0 (labelsIn column (rowAt columns (cellsOf values labels) (at + row * columns) ∷ chosen row (drop (row + 1) leaders) (rowsOf columns (rows - (row + 1)) (drop (at + (row + 1) * columns) (cellsOf values labels)))))) all (chosen row (drop other leaders) (rowsOf columns (rows - other) (drop (at + other * columns) (cellsOf values labels)))))
+Inv-loop labels next row size rows columns column at code first all₀ other₀ all other = Walking (length labels) at rows columns column other (at + other * columns) × (row < other) × Onward rows next × (code < 5) × ((leaders : List ℕ) (values : List ℤ) → Chain rows leaders next → getD leaders row 0 ≡ row → at + rows * columns ≤ length values → Each (Allowed column) (rowsOf columns (rows - row) (drop (at + row * columns) (cellsOf values labels))) → (other < rows → getD leaders other 0 ≡ row) × Composing code size column (composedAfter code size 0 (columnLabels column (rowFrom columns (cellsOf values labels) (at + row * columns) ∷ chosen row (drop (row + 1) leaders) (rowsOf columns (rows - (row + 1)) (drop (at + (row + 1) * columns) (cellsOf values labels)))))) all (chosen row (drop other leaders) (rowsOf columns (rows - other) (drop (at + other * columns) (cellsOf values labels)))))
 
 abbrev μ-loop : tie.MeasureT-loop
 μ-loop labels next row size rows columns column at code first all₀ other₀ all other = rows - other
@@ -80,10 +80,10 @@ loop-holds c =
           let M = cellsOf values (a .labels .now) in
           let l = label-read values (a .labels .now) (a .g .columns) place (a .g .column) (p .0 .has-column) (inside-other (length values) walk h q) (inside walk h) in
           let each = rw (rows-next (a .g .columns) (a .g .rows) (a .row) place M h) at allowed in
-          let start : c .before .with-label .result ≡ composed 0 (afterA (cellAt (a .g .column) (rowAt (a .g .columns) M place) .label) (code .result) (a .size)) = rw l (c .before .with-label .ensures zero-well-formed (rw l at (each .0)) few) in
+          let start : c .before .with-label .result ≡ composed 0 (afterA (cellAt (a .g .column) (rowFrom (a .g .columns) M place) .label) (code .result) (a .size)) = rw l (c .before .with-label .ensures zero-well-formed (rw l at (each .0)) few) in
           let later = each-chosen (Allowed (a .g .column)) (a .row) (drop (a .row + 1) leaders) (rowsOf (a .g .columns) (a .g .rows - (a .row + 1)) (drop (a .g .at + (a .row + 1) * a .g .columns) M)) (rw k (each .1)) in (
             next-led chain (a .row) (a .g .columns) (a .g .at) M (a .row) h e,
-            rw (← (next-left chain (a .row) (a .g .columns) (a .g .at) M (a .row) h e)) (label-taken {row = rowAt (a .g .columns) M place} (none-composed (code .result) (a .size) (a .g .column) _ (each .0, later)) start),
+            rw (← (next-left chain (a .row) (a .g .columns) (a .g .at) M (a .row) h e)) (label-taken {row = rowFrom (a .g .columns) M place} (none-composed (code .result) (a .size) (a .g .column) _ (each .0, later)) start),
           ),
     )
 

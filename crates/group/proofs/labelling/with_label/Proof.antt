@@ -6,12 +6,12 @@ use mathlib.Core.List.{[], _∷_}
 use borrow.Author.Needs.{needs}
 use types.Run.{miss}
 use Rattle.group.specs.promises.Members.{AllowedLabel}
-use Rattle.label.specs.Composition.{composed}
-use Rattle.label.specs.Discharge.{afterA}
-use Rattle.label.specs.WellFormed.{wellFormed}
-use Rattle.label.specs.declared.Answer.the-variants.{Label}
+use Rattle.label_composition.specs.Composition.{composed}
+use Rattle.label_discharge.specs.Discharge.{afterA}
+use Rattle.label_words.specs.WellFormed.{wellFormed}
+use Rattle.label_words.specs.declared.LabelAnswer.the-variants.{Label}
 use Rattle.group.proofs.Labels.{word-of, discharged, composes}
-use Rattle.label.proofs.Laws.{after-A-well-formed}
+use Rattle.label_laws.proofs.Laws.{after-A-well-formed}
 use Rattle.group.proofs.labelling.with_label.Statement.{statement}
 use Rattle.group.proofs.labelling.with_label.Tie as tie
 

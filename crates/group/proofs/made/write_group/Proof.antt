@@ -2,12 +2,12 @@
 use mathlib.Core.Path.{_≡_, _∙_}
 use lib.ListN.{length}
 use borrow.Author.Needs.{needs}
-use Rattle.group.specs.promises.Members.{Inside, Allowed, members, rowsFrom, rowsIn}
-use Rattle.group.specs.promises.Members.{valuesIn, labelsIn}
+use Rattle.group.specs.promises.Members.{ColumnInside, Allowed, members, rowsFrom, groupedRows}
+use Rattle.group.specs.promises.Members.{columnValues, columnLabels}
 use Rattle.cells.specs.promises.Work.{work, cellsIn}
 use Rattle.plan.specs.Group.{aggregateValue, composedAfter}
 use Rattle.plan.specs.Numbers.{aggregateCode}
-use Rattle.plan.specs.Sense.{Each}
+use Rattle.plan.specs.Table.{Each}
 use Rattle.group.proofs.Aggregating.{size-is, aggregate-is}
 use Rattle.group.proofs.Choosing.{rows-left, each-drop}
 use Rattle.value.proofs.Machine.{back-is}
@@ -42,15 +42,15 @@ returns c = λ leaders chain e.
     let a = s .args in
     let p = s .pre in
     let M = cellsIn (work (a .values .now) (a .labels .now)) in
-    let in-values : Inside (a .g) (length (a .values .now)) = search needs in
-    let in-labels : Inside (a .g) (length (a .labels .now)) = search needs in
+    let in-values : ColumnInside (a .g) (length (a .values .now)) = search needs in
+    let in-labels : ColumnInside (a .g) (length (a .labels .now)) = search needs in
     let sum = u .group-values .ensures leaders (a .labels .now) chain e in-labels in
     let group = members (a .g) M leaders (a .row) in
-    let allowed : Each (Allowed (a .g .column)) (rowsFrom (a .g) M (a .row)) = rw rows-left (each-drop (Allowed (a .g .column)) (a .row) (rowsIn (a .g) M) (p .1 .0)) in
+    let allowed : Each (Allowed (a .g .column)) (rowsFrom (a .g) M (a .row)) = rw rows-left (each-drop (Allowed (a .g .column)) (a .row) (groupedRows (a .g) M) (p .1 .0)) in
     let size = size-is (a .g) M leaders (a .row) (u .group-values .result) (p .0 .few-rows) (p .1 .1 .0) sum in
-    let value : v .value-of .result ≡ aggregateValue (a .g .aggregate) (valuesIn (a .g .column) group)
+    let value : v .value-of .result ≡ aggregateValue (a .g .aggregate) (columnValues (a .g .column) group)
     = v .value-of .ensures ∙ aggregate-is (a .g) M leaders (a .row) (u .group-values .result) (p .0 .few-rows) (p .1 .1 .0) sum in
-    let label : l .group-label .result ≡ composedAfter (aggregateCode (a .g .aggregate)) (length group) 0 (labelsIn (a .g .column) group)
+    let label : l .group-label .result ≡ composedAfter (aggregateCode (a .g .aggregate)) (length group) 0 (columnLabels (a .g .column) group)
     = rw size at (l .group-label .ensures leaders (a .values .now) chain e in-values allowed) in
     rw (back-is (v .value-of .result) (v .value-of .ok), value, label) at (r .write-row .ensures)
 

@@ -6,7 +6,7 @@ use native.Mathlib.Omega.{arith}
 use lib.ListN.{length, length-set}
 use mir.Facts.{toZ-ofZ}
 use borrow.Author.Tests.{eq-eqb, ne-eqb}
-use Rattle.group.specs.promises.Members.{rowAt}
+use Rattle.cells.specs.promises.Cells.{rowFrom}
 use Rattle.plan.specs.Masks.{inMask}
 use Rattle.cells.specs.promises.Work.{work, cellsIn, room, Kept}
 use Rattle.cells.specs.promises.Written.{CellsWritten}
@@ -21,7 +21,7 @@ use Rattle.group.proofs.made.write_row.Statement.{statement}
 use Rattle.group.proofs.made.write_row.Tie as tie
 
 abbrev Inv-loop : tie.InvT-loop
-Inv-loop values₀ labels₀ row to value label columns keys at from place₀ column₀ values labels place column = (column ≤ columns) × (columns ≤ 8) × (from + columns ≤ lastSlot) × (lastSlot ≤ to) × (to + keptCount keys columns < room) × (place < room) × (place ≡ to + keptCount keys column) × (room ≤ length values₀) × (room ≤ length labels₀) × (length values ≡ length values₀) × (length labels ≡ length labels₀) × CellsWritten (work values₀ labels₀) to (keptCells keys column (rowAt columns (cellsIn (work values₀ labels₀)) from)) (work values labels) × Kept (work values₀ labels₀) (work values labels)
+Inv-loop values₀ labels₀ row to value label columns keys at from place₀ column₀ values labels place column = (column ≤ columns) × (columns ≤ 8) × (from + columns ≤ lastSlot) × (lastSlot ≤ to) × (to + keptCount keys columns < room) × (place < room) × (place ≡ to + keptCount keys column) × (room ≤ length values₀) × (room ≤ length labels₀) × (length values ≡ length values₀) × (length labels ≡ length labels₀) × CellsWritten (work values₀ labels₀) to (keptCells keys column (rowFrom columns (cellsIn (work values₀ labels₀)) from)) (work values labels) × Kept (work values₀ labels₀) (work values labels)
 
 abbrev μ-loop : tie.MeasureT-loop
 μ-loop values₀ labels₀ row to value label columns keys at from place₀ column₀ values labels place column = columns - column

@@ -6,11 +6,12 @@ use native.Mathlib.Omega.{arith}
 use lib.ListN.{length, getD, drop}
 use borrow.Author.Needs.{needs}
 use Rattle.accumulator.specs.promises.Accumulators.{single, withValue, withValues}
-use Rattle.group.specs.promises.Members.{rowAt, chosen, Chain, Onward, valuesIn}
-use Rattle.cells.specs.promises.Cells.{cellsOf}
+use Rattle.chains.specs.promises.Chains.{Chain, Onward}
+use Rattle.group.specs.promises.Members.{chosen, columnValues}
+use Rattle.cells.specs.promises.Cells.{cellsOf, rowFrom}
 use Rattle.plan.specs.Table.{Row, cellAt, rowsOf}
 use Rattle.group.proofs.Choosing.{next-led, next-left, member-next}
-use Rattle.group.proofs.Reading.{value-read}
+use Rattle.chains.proofs.Reading.{value-read}
 use Rattle.group.proofs.Walking.{walk-from, walk-to, inside-other}
 use Rattle.cells.proofs.Columns.{Walking, inside}
 use Rattle.value.proofs.Machine.{back-is}
@@ -18,7 +19,7 @@ use Rattle.group.proofs.member.group_values.Statement.{statement}
 use Rattle.group.proofs.member.group_values.Tie as tie
 
 abbrev Inv-loop : tie.InvT-loop
-Inv-loop values next row rows columns column at first all₀ other₀ all other = Walking (length values) at rows columns column other (at + other * columns) × (row < other) × Onward rows next × ((leaders labels : List ℕ) → Chain rows leaders next → getD leaders row 0 ≡ row → at + rows * columns ≤ length labels → (other < rows → getD leaders other 0 ≡ row) × (withValues all₀ (valuesIn column (chosen row (drop (row + 1) leaders) (rowsOf columns (rows - (row + 1)) (drop (at + (row + 1) * columns) (cellsOf values labels))))) ≡ withValues all (valuesIn column (chosen row (drop other leaders) (rowsOf columns (rows - other) (drop (at + other * columns) (cellsOf values labels)))))))
+Inv-loop values next row rows columns column at first all₀ other₀ all other = Walking (length values) at rows columns column other (at + other * columns) × (row < other) × Onward rows next × ((leaders labels : List ℕ) → Chain rows leaders next → getD leaders row 0 ≡ row → at + rows * columns ≤ length labels → (other < rows → getD leaders other 0 ≡ row) × (withValues all₀ (columnValues column (chosen row (drop (row + 1) leaders) (rowsOf columns (rows - (row + 1)) (drop (at + (row + 1) * columns) (cellsOf values labels))))) ≡ withValues all (columnValues column (chosen row (drop other leaders) (rowsOf columns (rows - other) (drop (at + other * columns) (cellsOf values labels)))))))
 
 abbrev μ-loop : tie.MeasureT-loop
 μ-loop values next row rows columns column at first all₀ other₀ all other = rows - other
@@ -62,7 +63,7 @@ loop-holds c =
       p .1 .1,
       λ leaders labels chain e q.
           let M = cellsOf (a .values .now) labels in
-          (next-led chain (a .row) (a .g .columns) (a .g .at) M (a .row) h e, ap (λ (l : List Row). withValues (c .before .single .result) (valuesIn (a .g .column) l)) (next-left chain (a .row) (a .g .columns) (a .g .at) M (a .row) h e)),
+          (next-led chain (a .row) (a .g .columns) (a .g .at) M (a .row) h e, ap (λ (l : List Row). withValues (c .before .single .result) (columnValues (a .g .column) l)) (next-left chain (a .row) (a .g .columns) (a .g .at) M (a .row) h e)),
     )
 
 mul-place : tie.Need-mul-place Inv-loop μ-loop
@@ -106,7 +107,7 @@ loop-again c =
           let M = cellsOf (a .values .now) labels in
           let t = i .3 leaders labels chain e q in
           let v = value-read (a .values .now) labels (a .g .columns) (a .g .at + l .other * a .g .columns) (a .g .column) (i .0 .has-column) (inside (i .0) h) (inside-other (length labels) (i .0) h q) in
-          let more : c .before .with-value .result ≡ withValue (l .all) (cellAt (a .g .column) (rowAt (a .g .columns) M (a .g .at + l .other * a .g .columns)) .value)
+          let more : c .before .with-value .result ≡ withValue (l .all) (cellAt (a .g .column) (rowFrom (a .g .columns) M (a .g .at + l .other * a .g .columns)) .value)
           = c .before .with-value .ensures ∙ ap (withValue (l .all)) (back-is _ (c .before .before .with-value-arg .given) ∙ sym v) in
           (next-led chain (a .row) (a .g .columns) (a .g .at) M (l .other) h (t .0 h), t .1 ∙ rw (more, member-next chain (a .row) (a .g .columns) (a .g .at) M (l .other) h (t .0 h))),
     )
@@ -122,7 +123,7 @@ returns c =
     let z : a .g .rows - l .other ≡ 0 = omega arith in
     let walk = walk-from (a .g) (length labels) (a .row) q (omega arith) in
     let v = value-read (a .values .now) labels (a .g .columns) place (a .g .column) (q .has-column) (first s) (inside walk (s .pre .1 .0)) in
-    let start : c .before .before .before .single .result ≡ single (cellAt (a .g .column) (rowAt (a .g .columns) M place) .value)
+    let start : c .before .before .before .single .result ≡ single (cellAt (a .g .column) (rowFrom (a .g .columns) M place) .value)
     = c .before .before .before .single .ensures ∙ ap single (back-is _ (c .before .before .before .before .single-arg .given) ∙ sym v) in
     rw (← start) (sym (rw z at (l .inv .3 leaders labels chain e (q .within) .1)))
 

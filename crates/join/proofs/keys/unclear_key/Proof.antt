@@ -6,7 +6,7 @@ use native.Mathlib.Omega.{arith}
 use lib.Dec.{eqb}
 use lib.ListN.{drop}
 use borrow.Author.Needs.{needs}
-use Rattle.join.specs.promises.Pairs.{labelsIn}
+use Rattle.pairs.specs.promises.Pairs.{sideLabels}
 use Rattle.cells.specs.promises.Search.{placeSays, says}
 use Rattle.plan.specs.Join.{checkJoin}
 use Rattle.plan.specs.Verdict.{refused, fine, notClear}
@@ -26,7 +26,7 @@ not-clear-requires c κs = search needs
 
 left-told : (c : tie.After-not-clear)
     → let a = c .before .before .before .args in
-    placeSays 31 0 (c .not-clear .result) ≡ says (notClear (λ i. eqb i (a .left .key)) 31 0 (labelsIn (a .labels .now) (a .left)))
+    placeSays 31 0 (c .not-clear .result) ≡ says (notClear (λ i. eqb i (a .left .key)) 31 0 (sideLabels (a .labels .now) (a .left)))
 left-told c =
     let start = c .before .before .before in
     let sides = start .pre in
@@ -53,7 +53,7 @@ enum-known-second c = search needs
 
 right-told : (c : tie.After-not-clear2)
     → let a = c .before .before .before .before .before .before .before .args in
-    placeSays 31 (a .left .rows) (c .not-clear2 .result) ≡ says (notClear (λ i. eqb i (a .right .key)) 31 (a .left .rows) (labelsIn (a .labels .now) (a .right)))
+    placeSays 31 (a .left .rows) (c .not-clear2 .result) ≡ says (notClear (λ i. eqb i (a .right .key)) 31 (a .left .rows) (sideLabels (a .labels .now) (a .right)))
 right-told c =
     let start = c .before .before .before .before .before .before .before in
     let sides = start .pre in
@@ -62,7 +62,7 @@ right-told c =
 -- the left keys are clear
 left-fine : (c : tie.After-enum-told)
     → let a = c .before .before .before .before .before .args in
-    notClear (λ i. eqb i (a .left .key)) 31 0 (labelsIn (a .labels .now) (a .left)) ≡ fine
+    notClear (λ i. eqb i (a .left .key)) 31 0 (sideLabels (a .labels .now) (a .left)) ≡ fine
 left-fine c = says-is (sym (left-told (c .before .before)) ∙ ap (placeSays 31 0) (c .enum-told .given .1))
 
 returns-2 : tie.Need-returns-2
@@ -74,7 +74,7 @@ returns-2 c =
 -- a right key that is found
 right-found : (c : tie.After-second)
     → let a = c .before .before .before .before .before .before .before .before .before .args in
-    notClear (λ i. eqb i (a .right .key)) 31 (a .left .rows) (labelsIn (a .labels .now) (a .right)) ≡ refused 31 (a .left .rows + c .second .given .0 .0) (c .second .given .0 .1 .0)
+    notClear (λ i. eqb i (a .right .key)) 31 (a .left .rows) (sideLabels (a .labels .now) (a .right)) ≡ refused 31 (a .left .rows + c .second .given .0 .0) (c .second .given .0 .1 .0)
 right-found c =
     let rows = c .before .before .before .before .before .before .before .before .before .args .left .rows in
     says-is (sym (right-told (c .before .before)) ∙ ap (placeSays 31 rows) (c .second .given .1))

@@ -8,7 +8,7 @@ use borrow.Author.Needs.{needs}
 use Rattle.cells.specs.promises.Search.{says, placeSays}
 use Rattle.cells.specs.promises.Work.{work}
 use Rattle.join.specs.promises.Ends.{sideOf}
-use Rattle.join.specs.promises.Pairs.{labelsIn}
+use Rattle.pairs.specs.promises.Pairs.{sideLabels}
 use Rattle.memory.specs.promises.Stack.{widthsTo}
 use Rattle.memory.specs.promises.Steps.{fits}
 use Rattle.plan.specs.Join.{checkJoin}
@@ -42,7 +42,7 @@ searched c = c .before .before .before .before
 
 keys : (c : tie.After-unclear-key) → let l = searched c in let a = start l .args in
     placeSays 31 0 (c .unclear-key .result)
-    ≡ says (checkJoin (a .left) (a .right) (labelsIn (now (a .labels)) (sideOf (l .before .live-table .result) (a .left))) (labelsIn (now (a .labels)) (sideOf (l .live-table2 .result) (a .right))))
+    ≡ says (checkJoin (a .left) (a .right) (sideLabels (now (a .labels)) (sideOf (l .before .live-table .result) (a .left))) (sideLabels (now (a .labels)) (sideOf (l .live-table2 .result) (a .right))))
 keys c = rw (c .before .before .before .side .ensures, c .before .before .side2 .ensures) at (c .unclear-key .ensures)
 
 fit-requires : tie.Need-fit-requires

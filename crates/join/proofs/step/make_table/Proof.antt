@@ -1,14 +1,20 @@
 -- `join::step::make_table` meets its contract. Assumes nothing.
-use mathlib.Core.Path.{_∙_}
 use native.Mathlib.Omega.{arith}
 use denote.Ref.{now}
 use borrow.Author.Needs.{needs}
-use Rattle.cells.specs.promises.Work.{work}
+use Rattle.cells.specs.promises.Work.{work, cellsIn}
+use Rattle.pairs.specs.promises.Pairs.{Grown, allRows}
+use Rattle.pairs.proofs.Fitting.{sides-fit}
 use Rattle.cells.proofs.CellLaws.{values-moved, labels-moved}
 use Rattle.join.proofs.Ending.{finished-over, rows-values, rows-labels, finished-made}
 use Rattle.memory.proofs.Stacks.{fits-slot}
 use Rattle.join.proofs.step.make_table.Statement.{statement}
 use Rattle.join.proofs.step.make_table.Tie as tie
+
+-- the rows that were made
+grown : (c : tie.After-join-rows) → let a = c .before .before .before .before .args in
+    Grown 0 (a .left) (a .right) (allRows (cellsIn (work (now (a .values)) (now (a .labels)))) (a .left) (a .right)) (work (now (a .values)) (now (a .labels))) (c .join-rows .result) (work (c .join-rows .last .0) (c .join-rows .last .1 .0))
+grown c = let s = c .before .before .before .before in c .join-rows .ensures .grown (sides-fit _ _ (s .args .left) (s .args .right) (s .pre .0))
 
 join-rows-requires : tie.Need-join-rows-requires
 join-rows-requires c κs = search needs
@@ -23,7 +29,7 @@ returns : tie.Need-returns
 returns c =
     let made = c .before .before .before .before in
     let start = made .before .before .before .before in
-    finished-over (start .args .stack) (start .args .index) (start .pre .0) (made .join-rows .ensures) (c .if1 .taken)
+    finished-over (start .args .stack) (start .args .index) (start .pre .0) (grown made) (c .if1 .taken)
 
 mul-move-cells : tie.Need-mul-move-cells
 mul-move-cells c =
@@ -51,7 +57,7 @@ returns-2 c =
     let start = made .before .before .before .before in
     let a = start .args in
     let w = work (made .join-rows .last .0) (made .join-rows .last .1 .0) in
-    let g = made .join-rows .ensures in
+    let g = grown made in
     let v = rows-values (a .stack) (a .index) (start .pre .0) g (t .if1 .left) in
     let l = rows-labels (a .stack) (a .index) (start .pre .0) g (t .if1 .left) in
     let m = rw (start .pre .1) at (moves .move-cells .ensures) in

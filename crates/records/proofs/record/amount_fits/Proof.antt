@@ -1,6 +1,6 @@
 -- `records::record::amount_fits` meets its contract. Assumes nothing.
 use mathlib.Core.Path.{refl}
-use Rattle.records.specs.PlanPart.{amountFits}
+use Rattle.records.specs.Record.{amountFits}
 use Rattle.records.proofs.record.amount_fits.Statement.{statement}
 use Rattle.records.proofs.record.amount_fits.Tie as tie
 

@@ -4,8 +4,8 @@ use mathlib.Core.Path.{sym, ap, _∙_}
 use native.Mathlib.Omega.{arith}
 use borrow.Author.Needs.{needs}
 use borrow.Author.Tests.{ne-eqb, not-true, not-false}
-use Rattle.records.specs.PlanPart.{applyBy}
-use Rattle.records.proofs.Records.{amount-most}
+use Rattle.records.specs.Record.{applyBy}
+use Rattle.records.proofs.Tests.{amount-most}
 use Rattle.value.proofs.Machine.{back-is}
 use Rattle.records.proofs.record.apply_of.Statement.{statement}
 use Rattle.records.proofs.record.apply_of.Tie as tie
@@ -13,8 +13,8 @@ use Rattle.records.proofs.record.apply_of.Tie as tie
 operand-of-requires : tie.Need-operand-of-requires
 operand-of-requires c κs = search needs
 
-operand-fits-requires : tie.Need-operand-fits-requires
-operand-fits-requires c κs = search needs
+operand-written-requires : tie.Need-operand-written-requires
+operand-written-requires c κs = search needs
 
 when-requires : tie.Need-when-requires
 when-requires c κs = search needs
@@ -22,8 +22,8 @@ when-requires c κs = search needs
 operand-of-requires-2 : tie.Need-operand-of-requires-2
 operand-of-requires-2 c κs = search needs
 
-operand-fits-requires-2 : tie.Need-operand-fits-requires-2
-operand-fits-requires-2 c κs = search needs
+operand-written-requires-2 : tie.Need-operand-written-requires-2
+operand-written-requires-2 c κs = search needs
 
 when-requires-2 : tie.Need-when-requires-2
 when-requires-2 c κs = search needs
@@ -59,7 +59,7 @@ returns-2 : tie.Need-returns-2
 returns-2 c =
     rw (
       ap (λ (n : ℕ). applyBy n (c .before .before .before .before .args .f)) (c .before .before .before .match .keys1),
-      ← c .before .operand-fits .ensures,
+      ← c .before .operand-written .ensures,
       ← c .before .before .operand-of .ensures,
     ) (c .when .ensures)
 
@@ -67,7 +67,7 @@ returns-3 : tie.Need-returns-3
 returns-3 c =
     rw (
       ap (λ (n : ℕ). applyBy n (c .before .before .before .before .args .f)) (c .before .before .before .match .keys2),
-      ← c .before .operand-fits2 .ensures,
+      ← c .before .operand-written2 .ensures,
       ← c .before .before .operand-of2 .ensures,
     ) (c .when2 .ensures)
 
@@ -102,10 +102,10 @@ apply-of-spec =
     tie.close
     (tie.spec
     operand-of-requires
-    operand-fits-requires
+    operand-written-requires
     when-requires
     operand-of-requires-2
-    operand-fits-requires-2
+    operand-written-requires-2
     when-requires-2
     amount-fits-requires
     returns

@@ -1,7 +1,7 @@
 -- `records::record::fields_at` meets its contract. Assumes nothing.
 use native.Mathlib.Omega.{arith}
 use borrow.Author.Needs.{needs}
-use Rattle.records.specs.PlanPart.{fieldsAt}
+use Rattle.records.specs.Record.{fieldsAt}
 use Rattle.records.proofs.record.fields_at.Statement.{statement}
 use Rattle.records.proofs.record.fields_at.Tie as tie
 

@@ -9,8 +9,8 @@ comparison-of-requires c κs = search needs
 operand-of-requires : tie.Need-operand-of-requires
 operand-of-requires c κs = search needs
 
-operand-fits-requires : tie.Need-operand-fits-requires
-operand-fits-requires c κs = search needs
+operand-written-requires : tie.Need-operand-written-requires
+operand-written-requires c κs = search needs
 
 when-requires : tie.Need-when-requires
 when-requires c κs = search needs
@@ -18,7 +18,7 @@ when-requires c κs = search needs
 returns : tie.Need-returns
 returns c =
     rw (
-      ← c .before .operand-fits .ensures,
+      ← c .before .operand-written .ensures,
       ← c .before .before .before .before .comparison-of .ensures,
       ← c .before .before .before .operand-of .ensures,
     ) (c .when .ensures)
@@ -29,6 +29,6 @@ filter-of-spec =
     (tie.spec
     comparison-of-requires
     operand-of-requires
-    operand-fits-requires
+    operand-written-requires
     when-requires
     returns)

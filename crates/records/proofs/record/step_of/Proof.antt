@@ -1,8 +1,8 @@
 -- `records::record::step_of` meets its contract. Assumes nothing.
 use borrow.Author.Needs.{needs}
 use borrow.Author.Tests.{eq-eqb, ne-eqb}
-use Rattle.records.specs.PlanPart.{stepOf}
-use Rattle.records.proofs.Records.{kind-is}
+use Rattle.records.specs.Record.{stepOf}
+use Rattle.records.proofs.Tests.{kind-is}
 use Rattle.records.proofs.record.step_of.Statement.{statement}
 use Rattle.records.proofs.record.step_of.Tie as tie
 

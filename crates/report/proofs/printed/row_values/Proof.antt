@@ -6,40 +6,31 @@ use Rattle.report.proofs.printed.row_values.Statement.{statement}
 use Rattle.report.proofs.printed.row_values.Tie as tie
 
 abbrev Inv-loop : tie.InvT-loop
-Inv-loop output at columns place₀ column₀ place column = Unit {0}
+Inv-loop output at columns column₀ column = Unit {0}
 
 abbrev μ-loop : tie.MeasureT-loop
-μ-loop output at columns place₀ column₀ place column = columns - column
+μ-loop output at columns column₀ column = columns - column
 
 loop-holds : tie.Need-loop-holds Inv-loop μ-loop
-loop-holds c = tt
+loop-holds c = search needs
 
-returns : tie.Need-returns Inv-loop μ-loop
-returns c = tt
+wrapping-add-usize-requires : tie.Need-wrapping-add-usize-requires Inv-loop μ-loop
+wrapping-add-usize-requires c κs = search needs
 
-mul-signed : tie.Need-mul-signed Inv-loop μ-loop
-mul-signed c = search needs
-
-shared-slice-copy-out-signed : tie.Need-shared-slice-copy-out-signed Inv-loop μ-loop
-shared-slice-copy-out-signed c = search needs
-
-signed-requires : tie.Need-signed-requires Inv-loop μ-loop
-signed-requires c κs = tt
-
-add-place : tie.Need-add-place Inv-loop μ-loop
-add-place c = search needs
+value-at-requires : tie.Need-value-at-requires Inv-loop μ-loop
+value-at-requires c κs = search needs
 
 add-column : tie.Need-add-column Inv-loop μ-loop
-add-column c = omega arith
+add-column c = search needs
 
 loop-less : tie.Need-loop-less Inv-loop μ-loop
-loop-less c = omega arith
+loop-less c = search needs
 
 loop-again : tie.Need-loop-again Inv-loop μ-loop
-loop-again c = tt
+loop-again c = search needs
 
-returns-2 : tie.Need-returns-2 Inv-loop μ-loop
-returns-2 c = tt
+returns : tie.Need-returns Inv-loop μ-loop
+returns c = search needs
 
 pub row-values-spec : {M : Type 1} → statement M
 row-values-spec =
@@ -48,12 +39,9 @@ row-values-spec =
     Inv-loop
     μ-loop
     loop-holds
-    returns
-    mul-signed
-    shared-slice-copy-out-signed
-    signed-requires
-    add-place
+    wrapping-add-usize-requires
+    value-at-requires
     add-column
     loop-less
     loop-again
-    returns-2)
+    returns)

@@ -3,8 +3,8 @@ use mathlib.Core.Path.{ap}
 use native.Mathlib.Nat.{mul-le-mul}
 use native.Mathlib.Omega.{arith}
 use borrow.Author.Tests.{le-leb, lt-leb}
-use Rattle.container.specs.TablePart.{shapeOf}
-use Rattle.container.specs.declared.Shape.{Shape}
+use Rattle.table_part.specs.declared.Shape.{Shape}
+use Rattle.table_part.specs.promises.Shape.{shapeOf}
 use borrow.Author.Needs.{needs}
 use Rattle.scan.proofs.scanning.cells_fit.Statement.{statement}
 use Rattle.scan.proofs.scanning.cells_fit.Tie as tie

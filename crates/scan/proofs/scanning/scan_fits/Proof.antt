@@ -5,7 +5,7 @@ use mathlib.Core.Bool.{true≢false}
 use native.Mathlib.Omega.{arith}
 use denote.Ref.{now}
 use borrow.Author.Tests.{not-true, not-false, lt-ltb, le-ltb}
-use Rattle.container.specs.Layout.{partCount, partOf}
+use Rattle.layout.specs.Layout.{partCount, partOf}
 use Rattle.plan.specs.Widths.{enoughTables, columnsExist, madeColumns}
 use Rattle.scan.specs.promises.Scanning.{cellsFit}
 use Rattle.scan.proofs.ScanMeaning.{narrow-twice}

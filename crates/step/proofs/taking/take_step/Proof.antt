@@ -1,6 +1,4 @@
 -- `step::taking::take_step` meets its contract. Assumes nothing.
-use denote.Ref.{now}
-use Rattle.container.specs.Contents.{tablesOf}
 use borrow.Author.Needs.{needs}
 use Rattle.step.proofs.taking.take_step.Statement.{statement}
 use Rattle.step.proofs.taking.take_step.Tie as tie
@@ -63,7 +61,7 @@ same-length-4 : tie.Need-same-length-4
 same-length-4 c = search needs
 
 returns-2 : tie.Need-returns-2
-returns-2 c = rw (c .before .before .before .before .before .before .enum-told .given .1) (c .before .before .before .union .ensures (tablesOf (now (c .before .before .before .before .before .before .before .before .before .before .args .container))))
+returns-2 c = rw (c .before .before .before .before .before .before .enum-told .given .1) (c .before .before .before .union .ensures _)
 
 same-length-5 : tie.Need-same-length-5
 same-length-5 c = search needs
@@ -72,7 +70,7 @@ same-length-6 : tie.Need-same-length-6
 same-length-6 c = search needs
 
 returns-3 : tie.Need-returns-3
-returns-3 c = rw (c .before .before .before .before .before .before .before .step2 .given .1) (c .before .before .before .join .ensures (tablesOf (now (c .before .before .before .before .before .before .before .before .before .before .before .args .container))))
+returns-3 c = rw (c .before .before .before .before .before .before .before .step2 .given .1) (c .before .before .before .join .ensures _)
 
 same-length-7 : tie.Need-same-length-7
 same-length-7 c = search needs
@@ -81,7 +79,7 @@ same-length-8 : tie.Need-same-length-8
 same-length-8 c = search needs
 
 returns-4 : tie.Need-returns-4
-returns-4 c = rw (c .before .before .before .before .before .before .before .step3 .given .1) (c .before .before .before .filter .ensures (tablesOf (now (c .before .before .before .before .before .before .before .before .before .before .before .args .container))))
+returns-4 c = rw (c .before .before .before .before .before .before .before .step3 .given .1) (c .before .before .before .filter .ensures _)
 
 same-length-9 : tie.Need-same-length-9
 same-length-9 c = search needs
@@ -90,7 +88,7 @@ same-length-10 : tie.Need-same-length-10
 same-length-10 c = search needs
 
 returns-5 : tie.Need-returns-5
-returns-5 c = rw (c .before .before .before .before .before .before .before .step4 .given .1) (c .before .before .before .keep .ensures (tablesOf (now (c .before .before .before .before .before .before .before .before .before .before .before .args .container))))
+returns-5 c = rw (c .before .before .before .before .before .before .before .step4 .given .1) (c .before .before .before .keep .ensures _)
 
 same-length-11 : tie.Need-same-length-11
 same-length-11 c = search needs
@@ -99,7 +97,7 @@ same-length-12 : tie.Need-same-length-12
 same-length-12 c = search needs
 
 returns-6 : tie.Need-returns-6
-returns-6 c = rw (c .before .before .before .before .before .before .before .step5 .given .1) (c .before .before .before .apply .ensures (tablesOf (now (c .before .before .before .before .before .before .before .before .before .before .before .args .container))))
+returns-6 c = rw (c .before .before .before .before .before .before .before .step5 .given .1) (c .before .before .before .apply .ensures _)
 
 same-length-13 : tie.Need-same-length-13
 same-length-13 c = search needs
@@ -108,7 +106,7 @@ same-length-14 : tie.Need-same-length-14
 same-length-14 c = search needs
 
 returns-7 : tie.Need-returns-7
-returns-7 c = rw (c .before .before .before .before .before .before .before .step6 .given .1) (c .before .before .before .group .ensures (tablesOf (now (c .before .before .before .before .before .before .before .before .before .before .before .args .container))))
+returns-7 c = rw (c .before .before .before .before .before .before .before .step6 .given .1) (c .before .before .before .group .ensures _)
 
 pub take-step-spec : {M : Type 1} → statement M
 take-step-spec =

@@ -1,23 +1,24 @@
--- `step_trials::printing::cells` is safe and ends. The measure is what is left of the count. Assumes nothing.
-use Prim.Native.Nat.{_≤_, _-_}
+-- `step_trials::printing::cells` is safe and ends. Assumes nothing.
+use Prim.Native.Nat.{_-_}
+use native.Mathlib.Omega.{arith}
 use borrow.Author.Needs.{needs}
 use Rattle.step_trials.proofs.printing.cells.Statement.{statement}
 use Rattle.step_trials.proofs.printing.cells.Tie as tie
 
 abbrev Inv-loop : tie.InvT-loop
-Inv-loop values labels at count place₀ i₀ place i = i ≤ count
+Inv-loop values labels at count i₀ i = Unit {0}
 
 abbrev μ-loop : tie.MeasureT-loop
-μ-loop values labels at count place₀ i₀ place i = count - i
+μ-loop values labels at count i₀ i = count - i
 
 loop-holds : tie.Need-loop-holds Inv-loop μ-loop
 loop-holds c = search needs
 
-cell-requires : tie.Need-cell-requires Inv-loop μ-loop
-cell-requires c κs = search needs
-
 wrapping-add-usize-requires : tie.Need-wrapping-add-usize-requires Inv-loop μ-loop
 wrapping-add-usize-requires c κs = search needs
+
+cell-requires : tie.Need-cell-requires Inv-loop μ-loop
+cell-requires c κs = search needs
 
 add-i : tie.Need-add-i Inv-loop μ-loop
 add-i c = search needs
@@ -38,8 +39,8 @@ cells-spec =
     Inv-loop
     μ-loop
     loop-holds
-    cell-requires
     wrapping-add-usize-requires
+    cell-requires
     add-i
     loop-less
     loop-again

@@ -1,26 +1,30 @@
--- `step_trials::printing::row_by_row` is safe and ends. The measure is what is left of the rows. Assumes nothing.
-use Prim.Native.Nat.{_≤_, _-_}
+-- `step_trials::printing::row_by_row` is safe and ends. Assumes nothing.
+use Prim.Native.Nat.{_-_}
+use native.Mathlib.Omega.{arith}
 use borrow.Author.Needs.{needs}
 use Rattle.step_trials.proofs.printing.row_by_row.Statement.{statement}
 use Rattle.step_trials.proofs.printing.row_by_row.Tie as tie
 
 abbrev Inv-loop : tie.InvT-loop
-Inv-loop values labels at rows columns from₀ row₀ from row = row ≤ rows
+Inv-loop values labels at rows columns from₀ row₀ t8 from row = Unit {0}
 
 abbrev μ-loop : tie.MeasureT-loop
-μ-loop values labels at rows columns from₀ row₀ from row = rows - row
+μ-loop values labels at rows columns from₀ row₀ t8 from row = rows - row
 
 loop-holds : tie.Need-loop-holds Inv-loop μ-loop
 loop-holds c = search needs
 
-byte-requires : tie.Need-byte-requires Inv-loop μ-loop
-byte-requires c κs = search needs
+slice-aggregate-text : tie.Need-slice-aggregate-text Inv-loop μ-loop
+slice-aggregate-text c = search needs
 
-byte-requires-2 : tie.Need-byte-requires-2 Inv-loop μ-loop
-byte-requires-2 c κs = search needs
+text-requires : tie.Need-text-requires Inv-loop μ-loop
+text-requires c κs = search needs
 
 cells-requires : tie.Need-cells-requires Inv-loop μ-loop
 cells-requires c κs = search needs
+
+wrapping-add-usize-requires : tie.Need-wrapping-add-usize-requires Inv-loop μ-loop
+wrapping-add-usize-requires c κs = search needs
 
 add-row : tie.Need-add-row Inv-loop μ-loop
 add-row c = search needs
@@ -41,9 +45,10 @@ row-by-row-spec =
     Inv-loop
     μ-loop
     loop-holds
-    byte-requires
-    byte-requires-2
+    slice-aggregate-text
+    text-requires
     cells-requires
+    wrapping-add-usize-requires
     add-row
     loop-less
     loop-again

@@ -5,7 +5,7 @@ use native.Mathlib.Omega.{arith}
 use lib.ListN.{length, length-set}
 use borrow.Author.Needs.{needs}
 use borrow.Author.Tests.{lt-leb, le-leb}
-use Rattle.tally.specs.Lines.{line}
+use Rattle.tally.specs.promises.Lines.{line}
 use Rattle.tally.proofs.Traced.{four-stored}
 use Rattle.tally.proofs.lines.write_line.Statement.{statement}
 use Rattle.tally.proofs.lines.write_line.Tie as tie

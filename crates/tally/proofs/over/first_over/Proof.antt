@@ -11,7 +11,7 @@ use Rattle.cells.specs.promises.Search.{tableWithin}
 use Rattle.cells.specs.promises.Search.{says}
 use Rattle.cells.specs.declared.Place.the-variants.{Nowhere}
 use Rattle.plan.specs.Verdict.{orElse, refuseIf}
-use Rattle.tally.specs.Over.{firstOverIn}
+use Rattle.tally.specs.promises.Over.{firstOverIn}
 use Rattle.cells.proofs.Searching.{within-table, cell-inside}
 use Rattle.tally.proofs.Overs.{rowsLeft, cellsLeft, search-begins, row-begins, cell-next, row-ends, search-ends}
 use Rattle.value.proofs.Machine.{back-is}

@@ -38,10 +38,10 @@ abbrev μ-loop2 : tie.MeasureT-loop2
 μ-loop2 values labels₀ i j₀ labels j = 8192 - j
 
 returns : tie.Need-returns Inv-loop μ-loop Inv-loop2 μ-loop2
-returns c = (rw (lt-leb 8192 _ (c .if1 .taken)), (refl, refl))
+returns c = record { told = rw (lt-leb 8192 _ (c .if1 .taken)); values = refl; labels = refl }
 
 returns-2 : tie.Need-returns-2 Inv-loop μ-loop Inv-loop2 μ-loop2
-returns-2 c = (rw (le-leb 8192 _ (c .before .if1 .left), lt-leb 8192 _ (c .if2 .taken)), (refl, refl))
+returns-2 c = record { told = rw (le-leb 8192 _ (c .before .if1 .left), lt-leb 8192 _ (c .if2 .taken)); values = refl; labels = refl }
 
 loop-holds : tie.Need-loop-holds Inv-loop μ-loop Inv-loop2 μ-loop2
 loop-holds c = (c .if2 .left, begins (pos 0) _ (c .before .if1 .left))
@@ -91,7 +91,7 @@ returns-3 c =
     let m = c .before .loop2 in
     let i : l .i ≡ 8192 = omega (arith, l .inv .1 .few, c .before .before .loop-test .left) in
     let j : m .j ≡ 8192 = omega (arith, m .inv .few, c .loop2-test .left) in
-    (sym (rw (le-leb 8192 _ (l .inv .1 .room), le-leb 8192 _ (m .inv .room))), (all-filled (l .i) 8192 (pos 0) (l .inv .1 .written) i, all-filled (m .j) 8192 0 (m .inv .written) j))
+    record { told = sym (rw (le-leb 8192 _ (l .inv .1 .room), le-leb 8192 _ (m .inv .room))); values = all-filled (l .i) 8192 (pos 0) (l .inv .1 .written) i; labels = all-filled (m .j) 8192 0 (m .inv .written) j }
 
 pub clear-memory-spec : {M : Type 1} → statement M
 clear-memory-spec =

@@ -1,0 +1,2 @@
+-- What the refusal of an APPLY promises.
+pub mod Refusals

@@ -1,0 +1,2 @@
+-- What the chains of a table promise.
+pub mod Chains

@@ -1,0 +1,2 @@
+-- What the labels refuse of a GROUP. Nothing here is to be believed: `promises` has what the crates promise one another.
+pub mod promises

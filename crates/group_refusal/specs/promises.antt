@@ -1,0 +1,2 @@
+-- What the refusal of a GROUP promises.
+pub mod Refusals

@@ -1,0 +1,3 @@
+-- Laws for the proofs of other crates to cite.
+pub mod Laws
+pub mod Numbers

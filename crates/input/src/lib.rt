@@ -1,0 +1,33 @@
+// What the input checks answer. There is no code here: specs/ gives each answer its number and its place.
+
+// What can be wrong with a plan: its length, a step's record, the tables that a step takes or the plan leaves, or their columns. The place is a
+// byte offset in the container.
+pub enum PlanRefusal {
+    Length(usize),
+    Record(usize),
+    Tables(usize),
+    Columns(usize),
+}
+
+// What the checks of a plan answer: the plan is accepted, or the first thing that is wrong.
+pub enum PlanCheck {
+    Accepted,
+    Refused(PlanRefusal),
+}
+
+// What can be wrong with a container: its length or part count, its directory, a table's header or length, a value, a label, or the plan. The place
+// is a byte offset.
+pub enum InputRefusal {
+    Container,
+    Directory(usize),
+    Table(usize),
+    Value(usize),
+    Label(usize),
+    Plan(PlanRefusal),
+}
+
+// What the input checks answer: the container is accepted, or the first thing that is wrong.
+pub enum InputCheck {
+    Accepted,
+    Refused(InputRefusal),
+}

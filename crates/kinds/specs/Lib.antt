@@ -1,2 +1,0 @@
--- What goes by a step's kind. Nothing here is to be believed: `promises` has what this crate's functions promise; the rules stand in `plan`.
-pub mod promises

@@ -1,3 +1,0 @@
--- What the crates promise one another.
-pub mod Operations
-pub mod Widths

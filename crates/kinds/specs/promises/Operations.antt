@@ -1,8 +1,0 @@
--- Operations that exist: "k from 1 to 6" for cut.
-use mathlib.Core.Bool.{Bool}
-use Rattle.label.specs.Discharge.{transformExists}
-use Rattle.plan.specs.Numbers.{transformCode, digitsOf}
-use Rattle.plan.specs.declared.Transform.{Transform}
-
-abbrev pub operationFits : Transform → Bool
-operationFits transform = transformExists (transformCode transform) (digitsOf transform)

@@ -1,0 +1,2 @@
+-- What the proofs share, and for the proofs of other crates to cite.
+pub mod Composed

@@ -1,0 +1,5 @@
+// Composition of two labels.
+mod composition;
+mod packing;
+
+pub use composition::compose;

@@ -1,0 +1,5 @@
+// Discharge of a label.
+mod discharge;
+
+pub use discharge::discharge_aggregate;
+pub use discharge::discharge_transform;

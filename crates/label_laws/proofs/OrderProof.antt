@@ -1,0 +1,259 @@
+-- The order's laws, and how composition and discharge stand in it. Assumes nothing.
+use Prim.Native.Nat.{ℕ, _+_, _≤_, _<_, max}
+use mathlib.Core.Path.{_≡_, refl, sym, ap, ap₂, _∙_}
+use mathlib.Core.Bool.{Bool, true, false, cond, not, _&&_, _||_, false≢true, and-eq-true-iff}
+use native.Mathlib.Nat.{le-refl, le-trans, le-of-eq}
+use native.Mathlib.Omega.{arith}
+use lib.Bits.{bitAnd}
+use lib.Dec.{leb, lit<}
+use borrow.Author.Tests.{eqb-true, leb-true, le-leb}
+use Rattle.label_composition.specs.Composition.{merged, digitsWith, transformsBoth, digitsBoth, aggregatesBoth, minimumBoth, noiseBoth, composed}
+use Rattle.label_discharge.specs.Discharge.{isCut, forbidsT, forbidsA, allowsTransform, allowsAggregate, enoughRows, dischargesA, withoutT, withoutA, afterT, afterA}
+use Rattle.label_words.specs.Word.{fieldAt, bitAt, hasH, hasT, hasA, hasN, transformsOf, digitsOf, minimumOf}
+use Rattle.label_laws.proofs.Laws.{fields, either-H, either-T, either-A, either-N, compose-comm, fields-T, fields-A, stages-T, stages-A}
+use Rattle.label_words.proofs.Packed.{bit-of-field, bit-and}
+use Rattle.label_laws.specs.Order.{AsStrict, Reflexive, Transitive, ClearBelow, AllowsLess, ComposedAbove, ComposedLeast, DischargeLowers}
+
+-- ---- the order
+
+pub reflexive : Reflexive
+reflexive a = record {
+  H = λ e. e;
+  T = λ e. e;
+  A = λ e. e;
+  N = λ e. e;
+  transforms = λ t operation h e. e;
+  digits = λ t e. omega arith;
+  aggregates = λ t operation h e. e;
+  minimum = λ t. omega arith;
+  noise = λ t e. e;
+}
+
+pub transitive : Transitive
+transitive a b c p q = record {
+  H = λ e. search (p .H, q .H);
+  T = λ e. search (p .T, q .T);
+  A = λ e. search (p .A, q .A);
+  N = λ e. search (p .N, q .N);
+  transforms = λ t operation h e. p .transforms t operation h (q .transforms (p .T t) operation h e);
+  digits = λ t e. omega (arith, p .digits t (q .transforms (p .T t) 2 (lit< tt) e), q .digits (p .T t) e);
+  aggregates = λ t operation h e. p .aggregates t operation h (q .aggregates (p .A t) operation h e);
+  minimum = λ t. omega (arith, p .minimum t, q .minimum (p .A t));
+  noise = λ t e. p .noise t (q .noise (p .N t) e);
+}
+
+pub clear-below : ClearBelow
+unfolding fieldAt
+clear-below a = record {
+  H = λ e. absurd (false≢true e);
+  T = λ e. absurd (false≢true e);
+  A = λ e. absurd (false≢true e);
+  N = λ e. absurd (false≢true e);
+  transforms = λ t operation h e. absurd (false≢true t);
+  digits = λ t e. absurd (false≢true t);
+  aggregates = λ t operation h e. absurd (false≢true t);
+  minimum = λ t. absurd (false≢true t);
+  noise = λ t e. absurd (false≢true t);
+}
+
+both-true : {a b : Bool} → a ≡ true → b ≡ true → (a && b) ≡ true
+both-true e f = rw (e, f)
+
+pub allows-less : AllowsLess
+unfolding allowsTransform allowsAggregate enoughRows
+allows-less a b p = (λ t operation digits h e. transform t operation digits h e, λ t operation rows h e. aggregate t operation rows h e)
+  where
+    enough : (cut : Bool) (x y k : ℕ) → (cut ≡ true → x ≤ y) → (not cut || leb y k) ≡ true → (not cut || leb x k) ≡ true
+    enough true x y k le e = le-leb x k (le-trans (le refl) (leb-true y k e))
+    enough false x y k le e = refl
+
+    transform : hasT a ≡ true → (operation digits : ℕ) → operation < 4 → allowsTransform b operation digits ≡ true → allowsTransform a operation digits ≡ true
+    transform t operation digits h e =
+        let s = and-eq-true-iff (bitAt b (24 + operation)) (not (isCut operation) || leb (digitsOf b) digits) .0 e in
+        both-true (p .transforms t operation h (s .0))
+        (enough (isCut operation) (digitsOf a) (digitsOf b) digits (λ c. p .digits t (rw (eqb-true operation 2 c) at (s .0))) (s .1))
+
+    aggregate : hasA a ≡ true → (operation rows : ℕ) → operation < 5 → dischargesA b operation rows ≡ true → dischargesA a operation rows ≡ true
+    aggregate t operation rows h e =
+        let s = and-eq-true-iff (bitAt b (16 + operation)) (leb (minimumOf b) rows) .0 e in
+        both-true (p .aggregates t operation h (s .0)) (le-leb (minimumOf a) rows (omega (arith, p .minimum t, leb-true (minimumOf b) rows (s .1))))
+
+-- ---- composition
+
+-- an allowed bit of a stage that the left, the right or both of two labels have
+abbrev mergedBit : Bool → Bool → Bool → Bool → Bool
+mergedBit true true x y = x && y
+mergedBit true false x y = x
+mergedBit false true x y = y
+mergedBit false false x y = false
+
+merged-bit : (p q : Bool) (x y i : ℕ) → (p || q) ≡ true → bitAt (merged p q (bitAnd x y) x y) i ≡ mergedBit p q (bitAt x i) (bitAt y i)
+merged-bit true true x y i e = bit-and x y i
+merged-bit true false x y i e = refl
+merged-bit false true x y i e = refl
+merged-bit false false x y i e = absurd (false≢true e)
+
+left-bit : (p q x y : Bool) → p ≡ true → mergedBit p q x y ≡ true → x ≡ true
+left-bit true true x y t e = and-eq-true-iff x y .0 e .0
+left-bit true false x y t e = e
+left-bit false q x y t e = absurd (false≢true t)
+
+least-bit : (p q x y : Bool) → (p || q) ≡ true → (p ≡ true → x ≡ true) → (q ≡ true → y ≡ true) → mergedBit p q x y ≡ true
+least-bit true true x y t f g = both-true (f refl) (g refl)
+least-bit true false x y t f g = f refl
+least-bit false true x y t f g = g refl
+least-bit false false x y t f g = absurd (false≢true t)
+
+least-max : (p q : Bool) (x y z : ℕ) → (p ≡ true → x ≤ z) → (q ≡ true → y ≤ z) → merged p q (max x y) x y ≤ z
+least-max true true x y z f g = omega (arith, f refl, g refl)
+least-max true false x y z f g = f refl
+least-max false true x y z f g = g refl
+least-max false false x y z f g = omega arith
+
+least-digits : (p q : Bool) (s x y z : ℕ) → (p ≡ true → x ≤ z) → (q ≡ true → y ≤ z) → merged p q (digitsWith s (max x y)) x y ≤ z
+least-digits true true s x y z f g = either (bitAt s 2) (omega (arith, f refl, g refl))
+  where
+    either : (b : Bool) → max x y ≤ z → cond b (max x y) 0 ≤ z
+    either true h = h
+    either false h = omega arith
+least-digits true false s x y z f g = f refl
+least-digits false true s x y z f g = g refl
+least-digits false false s x y z f g = omega arith
+
+left-max : (q : Bool) (x y : ℕ) → x ≤ merged true q (max x y) x y
+left-max true x y = omega arith
+left-max false x y = le-refl x
+
+left-digits : (q : Bool) (s t x y : ℕ) → bitAt (merged true q (bitAnd s t) s t) 2 ≡ true → x ≤ merged true q (digitsWith (bitAnd s t) (max x y)) x y
+left-digits true s t x y c = rw c (omega arith)
+left-digits false s t x y c = le-refl x
+
+left-or : (p q : Bool) → p ≡ true → (p || q) ≡ true
+left-or p q e = rw e
+
+or-elim : (a b c : Bool) → (a || b) ≡ true → (a ≡ true → c ≡ true) → (b ≡ true → c ≡ true) → c ≡ true
+or-elim true b c e f g = f refl
+or-elim false b c e f g = g e
+
+module _ (a b : ℕ) where
+  -- a bit of a composed field
+  bit : (p q : Bool) (at width : ℕ)
+      → fieldAt (composed a b) at width ≡ merged p q (bitAnd (fieldAt a at width) (fieldAt b at width)) (fieldAt a at width) (fieldAt b at width)
+      → (p || q) ≡ true → (i : ℕ) → i < width → bitAt (composed a b) (at + i) ≡ mergedBit p q (bitAt a (at + i)) (bitAt b (at + i))
+  bit p q at width f some i h =
+      sym (bit-of-field (composed a b) at width i h) ∙ ap (λ (x : ℕ). bitAt x i) f ∙ merged-bit p q (fieldAt a at width) (fieldAt b at width) i some
+      ∙ ap₂ (mergedBit p q) (bit-of-field a at width i h) (bit-of-field b at width i h)
+
+  transform-bit : (hasT a || hasT b) ≡ true → (i : ℕ) → i < 4 → bitAt (composed a b) (24 + i) ≡ mergedBit (hasT a) (hasT b) (bitAt a (24 + i)) (bitAt b (24 + i))
+  unfolding transformsBoth
+  transform-bit = bit (hasT a) (hasT b) 24 4 (fields a b .transforms)
+
+  aggregate-bit : (hasA a || hasA b) ≡ true → (i : ℕ) → i < 5 → bitAt (composed a b) (16 + i) ≡ mergedBit (hasA a) (hasA b) (bitAt a (16 + i)) (bitAt b (16 + i))
+  unfolding aggregatesBoth
+  aggregate-bit = bit (hasA a) (hasA b) 16 5 (fields a b .aggregates)
+
+  noise-bit : (hasN a || hasN b) ≡ true → bitAt (composed a b) 23 ≡ mergedBit (hasN a) (hasN b) (bitAt a 23) (bitAt b 23)
+  unfolding noiseBoth
+  noise-bit e = bit (hasN a) (hasN b) 23 1 (fields a b .noise) e 0 (lit< tt)
+
+  -- at least the left label's digits where cut is allowed, and its minimum
+  digits-kept : hasT a ≡ true → bitAt (composed a b) 26 ≡ true → digitsOf a ≤ digitsOf (composed a b)
+  unfolding digitsBoth transformsBoth
+  digits-kept t e =
+      let cut : bitAt (merged true (hasT b) (bitAnd (transformsOf a) (transformsOf b)) (transformsOf a) (transformsOf b)) 2 ≡ true
+      = rw (← (rw t at (fields a b .transforms)), bit-of-field (composed a b) 24 4 2 (lit< tt)) e in
+      rw (fields a b .digits, t) (left-digits (hasT b) (transformsOf a) (transformsOf b) (digitsOf a) (digitsOf b) cut)
+
+  minimum-kept : hasA a ≡ true → minimumOf a ≤ minimumOf (composed a b)
+  unfolding minimumBoth
+  minimum-kept t = rw (fields a b .minimum, t) (left-max (hasA b) (minimumOf a) (minimumOf b))
+
+  above-left : AsStrict a (composed a b)
+  above-left = record {
+    H = λ e. either-H a b ∙ left-or (hasH a) (hasH b) e;
+    T = λ e. either-T a b ∙ left-or (hasT a) (hasT b) e;
+    A = λ e. either-A a b ∙ left-or (hasA a) (hasA b) e;
+    N = λ e. either-N a b ∙ left-or (hasN a) (hasN b) e;
+    transforms = λ t i h e. left-bit (hasT a) (hasT b) _ _ t (sym (transform-bit (left-or _ (hasT b) t) i h) ∙ e);
+    digits = digits-kept;
+    aggregates = λ t i h e. left-bit (hasA a) (hasA b) _ _ t (sym (aggregate-bit (left-or _ (hasA b) t) i h) ∙ e);
+    minimum = minimum-kept;
+    noise = λ t e. left-bit (hasN a) (hasN b) _ _ t (sym (noise-bit (left-or _ (hasN b) t)) ∙ e);
+  }
+
+pub composed-above : ComposedAbove
+composed-above a b = (above-left a b, rw (compose-comm a b) (above-left b a))
+
+pub composed-least : ComposedLeast
+unfolding digitsBoth minimumBoth
+composed-least a b c p q = record {
+  H = λ e. or-elim (hasH a) (hasH b) (hasH c) (sym (either-H a b) ∙ e) (p .H) (q .H);
+  T = λ e. or-elim (hasT a) (hasT b) (hasT c) (sym (either-T a b) ∙ e) (p .T) (q .T);
+  A = λ e. or-elim (hasA a) (hasA b) (hasA c) (sym (either-A a b) ∙ e) (p .A) (q .A);
+  N = λ e. or-elim (hasN a) (hasN b) (hasN c) (sym (either-N a b) ∙ e) (p .N) (q .N);
+  transforms = λ t i h e.
+      let s = sym (either-T a b) ∙ t in
+      transform-bit a b s i h ∙ least-bit (hasT a) (hasT b) _ _ s (λ f. p .transforms f i h e) (λ f. q .transforms f i h e);
+  digits = λ t e.
+      rw (fields a b .digits)
+      (least-digits (hasT a) (hasT b) (bitAnd (transformsOf a) (transformsOf b)) (digitsOf a) (digitsOf b) (digitsOf c) (λ f. p .digits f e) (λ f. q .digits f e));
+  aggregates = λ t i h e.
+      let s = sym (either-A a b) ∙ t in
+      aggregate-bit a b s i h ∙ least-bit (hasA a) (hasA b) _ _ s (λ f. p .aggregates f i h e) (λ f. q .aggregates f i h e);
+  minimum = λ t. rw (fields a b .minimum) (least-max (hasA a) (hasA b) (minimumOf a) (minimumOf b) (minimumOf c) (p .minimum) (q .minimum));
+  noise = λ t e.
+      let s = sym (either-N a b) ∙ t in
+      noise-bit a b s ∙ least-bit (hasN a) (hasN b) _ _ s (λ f. p .noise f e) (λ f. q .noise f e);
+}
+
+-- ---- discharge
+
+-- words with one field in common have its bits in common
+same-bit : (x y at width : ℕ) → fieldAt x at width ≡ fieldAt y at width → (i : ℕ) → i < width → bitAt x (at + i) ≡ bitAt y (at + i)
+same-bit x y at width e i h = sym (bit-of-field x at width i h) ∙ ap (λ (f : ℕ). bitAt f i) e ∙ bit-of-field y at width i h
+
+module _ (word : ℕ) where
+  without-T : AsStrict (withoutT word) word
+  without-T =
+      let l = stages-T word in
+      let f = fields-T word in
+      let none : hasT (withoutT word) ≡ true → ⊥ = λ t. false≢true (sym (l .T) ∙ t) in
+      record {
+        H = λ e. sym (l .H) ∙ e;
+        T = λ e. absurd (none e);
+        A = λ e. sym (l .A) ∙ e;
+        N = λ e. sym (l .N) ∙ e;
+        transforms = λ t i h e. absurd (none t);
+        digits = λ t e. absurd (none t);
+        aggregates = λ t i h e. same-bit (withoutT word) word 16 5 (f .aggregates) i h ∙ e;
+        minimum = λ t. le-of-eq (f .minimum);
+        noise = λ t e. same-bit (withoutT word) word 23 1 (f .noise) 0 (lit< tt) ∙ e;
+      }
+
+  without-A : AsStrict (withoutA word) word
+  without-A =
+      let l = stages-A word in
+      let f = fields-A word in
+      let none : hasA (withoutA word) ≡ true → ⊥ = λ t. false≢true (sym (l .A) ∙ t) in
+      record {
+        H = λ e. sym (l .H) ∙ e;
+        T = λ e. sym (l .T) ∙ e;
+        A = λ e. absurd (none e);
+        N = λ e. sym (l .N) ∙ e;
+        transforms = λ t i h e. same-bit (withoutA word) word 24 4 (f .transforms) i h ∙ e;
+        digits = λ t e. le-of-eq (f .digits);
+        aggregates = λ t i h e. absurd (none t);
+        minimum = λ t. absurd (none t);
+        noise = λ t e. same-bit (withoutA word) word 23 1 (f .noise) 0 (lit< tt) ∙ e;
+      }
+
+lowered-or-not : (b : Bool) {left word : ℕ} → AsStrict left word → AsStrict (cond b left word) word
+lowered-or-not true p = p
+lowered-or-not false {left} {word} p = reflexive word
+
+pub discharge-lowers : DischargeLowers
+unfolding afterT afterA
+discharge-lowers label operation = (
+  λ digits. lowered-or-not (not (forbidsT label) && hasT label && allowsTransform label operation digits) (without-T label),
+  λ rows. lowered-or-not (not (forbidsA label) && hasA label && dischargesA label operation rows) (without-A label),
+)

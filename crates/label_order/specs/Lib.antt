@@ -1,2 +1,0 @@
--- The order on labels.
-pub mod Order

@@ -1,0 +1,4 @@
+-- What the proofs share, and for the proofs of other crates to cite.
+pub mod Below
+pub mod Packed
+pub mod Words

@@ -1,0 +1,35 @@
+-- Which words are labels. The chain of the paper's Figure 3 falls by itself here, since each stage has a bit of its own.
+use Prim.Native.Nat.{ℕ, _^_}
+use mathlib.Core.Bool.{Bool, cond, _&&_, _||_}
+use lib.Dec.{eqb, leb, ltb}
+use Rattle.label_words.specs.Word.{fieldAt, bitAt, hasT, hasA, hasN, transformsOf, digitsOf, aggregatesOf, minimumOf, noiseOf}
+
+-- "Bits 22, 21, 15, 14, 13 are zero."
+abbrev pub reservedZero : ℕ → Bool
+reservedZero word = eqb (fieldAt word 21 2) 0 && eqb (fieldAt word 13 3) 0
+
+-- "digits, 1 to 6 if cut is allowed, else 0"
+unfoldable pub digitsFit : Bool → ℕ → Bool
+digitsFit cutAllowed digits = cond cutAllowed (leb 1 digits && leb digits 6) (eqb digits 0)
+
+-- the smallest group minimum of a label
+abbrev pub smallestMinimum : ℕ
+smallestMinimum = 1
+
+-- "group minimum, 1 to 1,023 if A is present, else 0"
+unfoldable pub minimumFits : Bool → ℕ → Bool
+minimumFits present minimum = cond present (leb smallestMinimum minimum && leb minimum 1023) (eqb minimum 0)
+
+-- "An absent stage has no allowed bits. A present stage may have none."
+abbrev pub transformFits : ℕ → Bool
+transformFits word = (hasT word || eqb (transformsOf word) 0) && digitsFit (bitAt word 26) (digitsOf word)
+
+abbrev pub aggregateFits : ℕ → Bool
+aggregateFits word = (hasA word || eqb (aggregatesOf word) 0) && minimumFits (hasA word) (minimumOf word)
+
+abbrev pub noiseFits : ℕ → Bool
+noiseFits word = hasN word || eqb (noiseOf word) 0
+
+-- a label is one 32-bit word with all of these
+unfoldable pub wellFormed : ℕ → Bool
+wellFormed word = ltb word (2 ^ 32) && reservedZero word && transformFits word && aggregateFits word && noiseFits word

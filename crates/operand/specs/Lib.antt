@@ -1,0 +1,2 @@
+-- The second operand in memory. Nothing here is to be believed: `promises` has what the crates promise one another.
+pub mod promises

@@ -1,0 +1,2 @@
+-- What FILTER and APPLY read.
+pub mod Operands

@@ -1,0 +1,2 @@
+-- The rows of a join. Nothing here is to be believed: `promises` has what the crates promise one another.
+pub mod promises

@@ -1,0 +1,45 @@
+// The rows of a join, made in the last slot of work memory, above the two tables.
+ghost use mathlib.Core.Path.{_≡_};
+ghost use Rattle.cells.specs.promises.Work.{work};
+ghost use Rattle.pairs.specs.promises.Pairs as spec;
+
+mod rows;
+
+use memory::LAST_SLOT;
+use memory::ROOM;
+
+// A table of the join: where it begins in work memory, its rows and columns, and its key column.
+pub struct Side {
+    pub at: usize,
+    pub rows: usize,
+    pub columns: usize,
+    pub key: usize,
+}
+
+// Makes the rows of all left rows, and answers how many there are: 257 if more than 256. Where the slices are short, a table does not lie
+// below the last slot or have its key, or the rows would have more than 8 columns, it changes nothing and answers 0.
+pub fn join_rows(values: &mut [i64], labels: &mut [u32], left: Side, right: Side) -> usize
+    ensures { λ r. ⌜ spec.RowsJoined left right (work (now (values .entry)) (now (labels .entry))) r
+        (work (now (values .exit)) (now (labels .exit))) ⌝ }
+{
+    if !sides_fit(values.len(), labels.len(), left, right) {
+        return 0;
+    }
+    rows::join_all(values, labels, left, right)
+}
+
+// Whether two tables lie below the last slot, and make rows of at most 8 columns, in slices of these lengths.
+fn sides_fit(values: usize, labels: usize, left: Side, right: Side) -> bool
+    ensures { λ r. ⌜ r ≡ spec.sidesFit values labels left right ⌝ }
+{
+    if !(side_fits(left) & side_fits(right)) {
+        return false;
+    }
+    (left.columns + right.columns <= 9) & (ROOM <= values) & (ROOM <= labels)
+}
+
+fn side_fits(side: Side) -> bool
+    ensures { λ r. ⌜ r ≡ spec.sideFits side ⌝ }
+{
+    cells::table_within(side.at, side.rows, side.columns, LAST_SLOT) & (side.key < side.columns)
+}

@@ -1,0 +1,64 @@
+-- The reply of a release, search by search. Assumes nothing.
+use Prim.Native.Nat.{ℕ, _*_, _≤_}
+use mathlib.Core.Path.{_≡_, refl, sym, ap, _∙_}
+use mathlib.Core.Bool.{Bool, true, false, cond, _&&_, and-eq-true-iff}
+use mathlib.Core.List.{List}
+use native.Mathlib.Nat.{zero-add, mul-le-mul}
+use native.Mathlib.Omega.{arith}
+use lib.Dec.{leb}
+use lib.IntN.{ℤ}
+use lib.ListN.{length}
+use borrow.Author.Tests.{leb-true}
+use Rattle.cells.specs.declared.Place.the-variants as place
+use Rattle.cells.specs.promises.Cells.{within}
+use Rattle.cells.specs.promises.Search.{Reply, says, unfit, tableWithin, placeSays, notClearAt}
+use Rattle.cells.specs.promises.Work.{Work}
+use Rattle.plan.specs.Verdict.{fine, refused}
+use Rattle.release.specs.promises.Release.{afterFine, releaseReply}
+use Rattle.tally.specs.promises.Output.{copies}
+use Rattle.tally.specs.promises.Over.{firstOverAt}
+
+module _ (w : Work) (output : List ℤ) (rows columns : ℕ) where
+  abbrev stages : Reply
+  stages = notClearAt 35 0 (w .labels) 0 rows columns 255
+
+  abbrev overs : Reply
+  overs = firstOverAt 0 (w .values) 0 rows columns
+
+  abbrev room : Reply
+  room = cond (copies (w .values) 0 (rows * columns) output) (says fine) unfit
+
+  -- a table that is searched is small
+  pub few-cells : placeSays 35 0 place.Nowhere ≡ stages → rows * columns ≤ 2048
+  few-cells e = by-fit (tableWithin 0 rows columns (length (w .labels))) refl
+    where
+      by-fit : (b : Bool) → tableWithin 0 rows columns (length (w .labels)) ≡ b → rows * columns ≤ 2048
+      by-fit true f =
+          let a = and-eq-true-iff (leb rows 256 && leb columns 8) (within 0 (rows * columns) (length (w .labels))) .0 f in
+          let b = and-eq-true-iff (leb rows 256) (leb columns 8) .0 (a .0) in
+          mul-le-mul (leb-true rows 256 (b .0)) (leb-true columns 8 (b .1))
+      by-fit false f = let g : says fine ≡ unfit = e ∙ rw f in let z : _≡_ {A = ℕ} 0 1 = cc in absurd (omega arith)
+
+  -- the first search ends it
+  pub first-ends : {reply : Reply} → (next : Reply) → reply ≡ stages → afterFine reply next ≡ afterFine stages next
+  first-ends next e = ap (λ (r : Reply). afterFine r next) e
+
+  pub stage-left : (row column : ℕ) → placeSays 35 0 (place.At row column) ≡ stages → says (refused 35 row column) ≡ releaseReply w output rows columns
+  stage-left row column e = ap (λ (n : ℕ). says (refused 35 n column)) (sym (zero-add row)) ∙ first-ends (afterFine overs room) e
+
+  pub labels-unfit : placeSays 35 0 place.DoesNotFit ≡ stages → unfit ≡ releaseReply w output rows columns
+  labels-unfit e = first-ends (afterFine overs room) e
+
+  module _ (clear : placeSays 35 0 place.Nowhere ≡ stages) where
+    -- the second search ends it, or the room for the values
+    second-ends : {reply : Reply} → reply ≡ overs → afterFine reply room ≡ releaseReply w output rows columns
+    second-ends e = ap (λ (r : Reply). afterFine r room) e ∙ first-ends (afterFine overs room) clear
+
+    pub over-left : (row column : ℕ) → placeSays 36 0 (place.At row column) ≡ overs → says (refused 36 row column) ≡ releaseReply w output rows columns
+    over-left row column e = ap (λ (n : ℕ). says (refused 36 n column)) (sym (zero-add row)) ∙ second-ends e
+
+    pub values-unfit : placeSays 36 0 place.DoesNotFit ≡ overs → unfit ≡ releaseReply w output rows columns
+    values-unfit e = second-ends e
+
+    pub last-ends : (copied : Bool) → placeSays 36 0 place.Nowhere ≡ overs → copied ≡ copies (w .values) 0 (rows * columns) output → cond copied (says fine) unfit ≡ releaseReply w output rows columns
+    last-ends copied e c = ap (λ (b : Bool). cond b (says fine) unfit) c ∙ second-ends e

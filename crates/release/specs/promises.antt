@@ -1,0 +1,2 @@
+-- `Release`: what a release answers, and what the output holds afterwards.
+pub mod Release

@@ -1,0 +1,2 @@
+-- What a line of the input says.
+pub mod Words

@@ -1,0 +1,3 @@
+-- What the proofs share. Header is also for the proofs of other crates to cite.
+mod CellsLeft
+pub mod Header

@@ -1,0 +1,19 @@
+-- "Refused because of the input (place: a byte offset)": for each table 13, then for each cell 14, 15.
+use Prim.Native.Nat.{ℕ, zero, suc, _+_}
+use mathlib.Core.Bool.{not}
+use mathlib.Core.List.{List}
+use Rattle.input.specs.Verdict.{InputVerdict, accepted, andThen, rejectIf}
+use Rattle.label_words.specs.WellFormed.{wellFormed}
+use Rattle.table_part.specs.TablePart.{cellCount, headerFits, valuePlace, labelPlace, valueOf, labelOf}
+use Rattle.value.specs.Range.{inRange}
+
+-- "14: value out of range. 15: ill-formed label. Place: the field." The table part begins at `at`.
+abbrev pub checkCells : List ℕ → ℕ → ℕ → ℕ → InputVerdict
+checkCells part at cell zero = accepted
+checkCells part at cell (suc more) =
+    andThen (rejectIf (not (inRange (valueOf part cell))) 14 (at + valuePlace cell))
+    (andThen (rejectIf (not (wellFormed (labelOf part cell))) 15 (at + labelPlace cell)) (checkCells part at (suc cell) more))
+
+-- "13: table header or length. Place: the part."
+unfoldable pub checkTable : List ℕ → ℕ → InputVerdict
+checkTable part at = andThen (rejectIf (not (headerFits part)) 13 at) (checkCells part at 0 (cellCount part))

@@ -1,0 +1,2 @@
+-- A law for the proofs of other crates to cite.
+pub mod Laws

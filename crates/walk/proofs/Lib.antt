@@ -1,0 +1,6 @@
+-- What the proofs share.
+pub mod LabelledSteps
+mod LineMeaning
+mod TakenMeaning
+mod Walking
+mod OneStep

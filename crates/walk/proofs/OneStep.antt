@@ -1,0 +1,65 @@
+-- One step of a plan and its line. Assumes nothing.
+use Prim.Native.Nat.{ℕ, _≤_, _<_}
+use mathlib.Core.Path.{_≡_, sym, ap, subst, _∙_}
+use mathlib.Core.List.{List}
+use native.Mathlib.Omega.{arith}
+use lib.IntN.{ℤ}
+use lib.ListN.{length}
+use Rattle.input.specs.Verdict.{accepted}
+use Rattle.layout.specs.Layout.{partOf}
+use Rattle.cells.specs.promises.Work.{Work, work, room}
+use Rattle.memory.specs.promises.Stack.{Ready, stackIn}
+use Rattle.memory.specs.promises.Steps.{stepSays, verdict, Done}
+use Rattle.memory.specs.declared.Stack.{Stack}
+use Rattle.memory.specs.declared.Stepped.{Stepped}
+use Rattle.plan.specs.Table.{top}
+use Rattle.plan.specs.Trace.{lineOf}
+use Rattle.plan.specs.Verdict.{fine}
+use Rattle.plan.specs.declared.Step.{Step}
+use Rattle.plan_part.specs.promises.Steps.{stepAt}
+use Rattle.records.specs.declared.Found.{Found}
+use Rattle.records.specs.declared.Found.the-variants as found
+use Rattle.step.specs.promises.Taking.{Taken}
+use Rattle.tally.specs.promises.Lines.{withLine}
+use Rattle.walk.specs.promises.Steady.{Steady}
+use Rattle.walk.specs.promises.Walk.{stepNumber}
+use Rattle.accepted.proofs.AcceptedPlan.{steps-counted, steps-found}
+use Rattle.walk.proofs.TakenMeaning.{taken-done}
+use Rattle.memory.proofs.Finish.{says-is}
+use Rattle.memory.specs.declared.StepAnswer.the-variants.{Made}
+use Rattle.memory.proofs.Stacks.{is-ready, stack-length}
+use Rattle.demands.specs.Given.{Given, checkGiven, planGiven, prepared}
+
+-- the record at an index of an accepted plan has its step
+module _ (given : Given) (index : ℕ) (ok : checkGiven given ≡ accepted) (h : index < length (planGiven given)) {part : List ℕ} (p : part ≡ partOf (given .container) 0) {f : Found} (e : f ≡ stepAt part index) where
+  there : f ≡ found.Step (stepNumber given index)
+  there = e ∙ ap (λ (part : List ℕ). stepAt part index) p ∙ steps-found (given .container) ok index (omega (arith, steps-counted (given .container) ok))
+
+  pub found-step : {step : Step} → f ≡ found.Step step → step ≡ stepNumber given index
+  found-step s = let t = there in cc
+
+  pub found-nothing : f ≡ found.Nothing → ⊥
+  found-nothing s = let t = there in let z : _≡_ {A = ℕ} 0 1 = cc in omega arith
+
+module _ {given : Given} (index : ℕ) {w : Work} {stack : Stack} (s : Steady given (stepNumber given index) w stack) {known : Step} (e : known ≡ stepNumber given index)
+    {done : Stepped} {w′ : Work} (t : Taken (given .container) known w stack done w′) where
+  pub done-so : Done (stepNumber given index) (prepared given) w stack done w′
+  done-so = taken-done (stepNumber given index) s (subst (λ (k : Step). Taken (given .container) k w stack done w′) e t)
+
+  module _ (m : done .answer ≡ Made) where
+    allowed : verdict (stepNumber given index) (prepared given) (stackIn w stack) ≡ fine
+    allowed = says-is (sym (done-so .answer (s .fits-is)) ∙ ap stepSays m)
+
+    -- the table made is on the stack
+    pub some-made : 1 ≤ done .stack .depth
+    some-made =
+        let n : length (stackIn w′ (done .stack)) ≡ done .stack .depth = stack-length w′ (done .stack) (done .stack .depth) in
+        let more = ap length (done-so .made (s .fits-is) allowed .tables-are) in
+        omega (arith, n, more)
+
+    pub still-ready : Ready (length (w′ .values)) (length (w′ .labels)) (done .stack)
+    still-ready = is-ready (length (w′ .values)) (length (w′ .labels)) (done .stack) (done-so .made (s .fits-is) allowed .still)
+
+    pub line-made : (t : List ℕ) {t′ : List ℕ} → ((values : List ℤ) → room ≤ length values → t′ ≡ withLine index (lineOf known (top (stackIn (work values (w′ .labels)) (done .stack)))) t)
+        → t′ ≡ withLine index (lineOf (stepNumber given index) (top (stackIn w′ (done .stack)))) t
+    line-made t e′ = e′ (w′ .values) (still-ready .values-room) ∙ ap (λ (k : Step). withLine index (lineOf k (top (stackIn w′ (done .stack)))) t) e

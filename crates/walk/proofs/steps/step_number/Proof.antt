@@ -1,0 +1,27 @@
+-- `walk::steps::step_number` meets its contract. Assumes nothing.
+use Rattle.walk.proofs.OneStep.{found-step, found-nothing}
+use borrow.Author.Needs.{needs}
+use Rattle.walk.proofs.steps.step_number.Statement.{statement}
+use Rattle.walk.proofs.steps.step_number.Tie as tie
+
+part-requires : tie.Need-part-requires
+part-requires c κs = search needs
+
+step-at-requires : tie.Need-step-at-requires
+step-at-requires c κs = search needs
+
+enum-known-step : tie.Need-enum-known-step
+enum-known-step c = search needs
+
+enum-told : tie.Need-enum-told
+enum-told c = search needs
+
+returns : tie.Need-returns
+returns c = λ ok h. found-step _ _ ok h (c .before .before .before .before .part .ensures) (c .before .before .before .step-at .ensures) (c .before .step .given .1)
+
+returns-2 : tie.Need-returns-2
+returns-2 c = λ ok h. absurd (found-nothing _ _ ok h (c .before .before .before .part .ensures) (c .before .before .step-at .ensures) (c .enum-told .given .1))
+
+pub step-number-spec : {M : Type 1} → statement M
+step-number-spec =
+    tie.close (tie.spec part-requires step-at-requires enum-known-step enum-told returns returns-2)

@@ -1,0 +1,2 @@
+-- The steps of a plan over work memory. Nothing here is to be believed: `promises` has what the crates promise one another.
+pub mod promises

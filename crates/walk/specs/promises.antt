@@ -1,0 +1,3 @@
+-- `Steady`: what holds before each step. `Walk`: what a walk along a plan comes to.
+pub mod Steady
+pub mod Walk

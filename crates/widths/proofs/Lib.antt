@@ -1,0 +1,2 @@
+-- What other crates' proofs cite.
+pub mod Laws
