@@ -2,8 +2,8 @@
  *
  * Links with libcilunovay.a (`rt staticlib cilunovay`), for x86-64 Linux.
  *
- * Both functions are proved to do what stands above them below, for every
- * container and every length, and to return. Not proved, but seen in the
+ * cilunovay_run and cilunovay_check are proved to do what stands above them below,
+ * for every container and every length, and to return. Not proved, but seen in the
  * archive: they call only memcpy and memset and keep nothing between calls, so
  * that several threads may call them at once, each with slices of its own.
  *
@@ -29,7 +29,8 @@
 /* The longest container, in bytes. A longer slice is refused with 11. */
 #define CILUNOVAY_CONTAINER 65536
 
-/* The numbers that both functions return and write to answer[0]. */
+/* The numbers that both of these return and write to answer[0]; docs/REFUSALS.md
+ * says what causes each and what to do. */
 #define CILUNOVAY_RELEASED 0 /* cilunovay_check: accepted */
 
 /* A lent slice is too short. */
@@ -71,9 +72,10 @@ extern "C" {
  *
  * After 1 and after 11 to 19 nothing else has changed. After a release and after
  * 31 to 36, trace begins with four numbers for each finished step (kind, rows,
- * columns, stages left; after a release, 35 and 36 every step is finished), and
- * the first CILUNOVAY_WORK elements of values and of labels are zero. A refusal
- * leaves output as it was. Everything else lent is as it was.
+ * columns, stages left; after a release, 35 and 36 every step is finished, and
+ * cilunovay_finished below says how many there are), and the first CILUNOVAY_WORK
+ * elements of values and of labels are zero. A refusal leaves output as it was.
+ * Everything else lent is as it was.
  *
  * Where answer has fewer than CILUNOVAY_ANSWER elements, nothing lent changes at
  * all, the answer included, and 1 is returned: a lent slice is too short.
@@ -87,6 +89,21 @@ uint32_t cilunovay_run(const uint8_t *container, size_t container_length,
                        int64_t *output, size_t output_length,
                        uint32_t *trace, size_t trace_length,
                        uint64_t *answer, size_t answer_length);
+
+/* How many steps a call of cilunovay_run has finished, and so how many lines trace
+ * begins with: what lies past them is as it was before the call, lines of an
+ * earlier call included, and the trace alone does not tell them apart. Takes the
+ * container and the answer of that call, of at least CILUNOVAY_ANSWER elements.
+ * After 31 to 36 it is the step of the answer; after a release every step of the
+ * plan, whose length in bytes, at most 1,024, the container has at its bytes 6 and
+ * 7; after 1 and 11 to 19 it is 0. This function is tested and not proved.
+ */
+static inline size_t cilunovay_finished(const uint8_t *container, const uint64_t *answer)
+{
+    if (answer[0] == CILUNOVAY_RELEASED)
+        return ((size_t)container[6] + 256 * (size_t)container[7]) / 16;
+    return answer[0] >= CILUNOVAY_NOT_CLEAR ? (size_t)answer[1] : 0;
+}
 
 /* The input checks of cilunovay_run alone. Writes two numbers to the start of
  * answer and returns the first: 0, 0 where the container is accepted, else 11 to

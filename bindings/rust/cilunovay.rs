@@ -1,13 +1,23 @@
 //! The release monitor for Rust, with nothing unsafe for its callers.
 //!
-//! Take this file in as a module and link `libcilunovay.a`, which
-//! `rt staticlib cilunovay` writes for x86-64 Linux:
+//! Take this file in as a module, and link `libcilunovay.a`, which
+//! `rt staticlib cilunovay` writes for x86-64 Linux. It needs Rust 1.82, and is of
+//! edition 2021 or 2024. By rustc alone:
 //!
-//!     rustc --edition 2021 -L native=DIRECTORY -l static=cilunovay PROGRAM.rs
+//! ```text
+//! rustc --edition 2024 -L native=target/staticlib PROGRAM.rs
+//! ```
+//!
+//! In a Cargo package, copy this file into `src`, the archive into `lib` and
+//! `build.rs`, which stands beside this file, beside `Cargo.toml`; then write
+//! `mod cilunovay;`.
 //!
 //! [`Monitor::run`] evaluates a container; [`check`] does the input checks
 //! alone. Both answer for every slice of bytes. Rows, columns, steps and byte
 //! offsets count from 0.
+
+// A program may use a part of this file.
+#![allow(dead_code)]
 
 use std::fmt;
 
@@ -19,7 +29,8 @@ const OUTPUT: usize = 2_048;
 const TRACE: usize = 256;
 
 // A slice is lent as a pointer and a length; include/cilunovay.h has the contracts.
-extern "C" {
+#[link(name = "cilunovay", kind = "static")]
+unsafe extern "C" {
     fn cilunovay_run(
         container: *const u8,
         container_length: usize,
@@ -99,7 +110,27 @@ pub struct Release {
 impl Release {
     /// The rows, each with a value for each column.
     pub fn iter(&self) -> std::slice::Chunks<'_, i64> {
-        self.values.chunks(self.columns)
+        self.values.chunks(self.columns.max(1))
+    }
+}
+
+/// `for row in &release` goes through the rows.
+impl<'a> IntoIterator for &'a Release {
+    type Item = &'a [i64];
+    type IntoIter = std::slice::Chunks<'a, i64>;
+
+    fn into_iter(self) -> Self::IntoIter {
+        self.iter()
+    }
+}
+
+/// `for row in release` does too, and gives each row away.
+impl IntoIterator for Release {
+    type Item = Vec<i64>;
+    type IntoIter = std::vec::IntoIter<Vec<i64>>;
+
+    fn into_iter(self) -> Self::IntoIter {
+        self.iter().map(<[i64]>::to_vec).collect::<Vec<_>>().into_iter()
     }
 }
 
@@ -146,6 +177,23 @@ impl InputFault {
             _ => unreachable!("the input is refused with 11 to 19"),
         }
     }
+
+    /// What the fault means.
+    pub fn meaning(self) -> &'static str {
+        match self {
+            InputFault::Container => "the container is too long or too short, or its part count is wrong",
+            InputFault::Directory => "the directory does not lay the parts one after the other to the end",
+            InputFault::Table => "a table's header or length is wrong",
+            InputFault::Value => "a value is out of range",
+            InputFault::Label => "a label is ill-formed",
+            InputFault::Plan => "the plan is not 1 to 64 steps of 16 bytes",
+            InputFault::Step => "a step's record is wrong",
+            InputFault::Tables => "a step has too few tables or too many, or the plan does not leave one",
+            InputFault::Columns => {
+                "a step names a table or column that does not exist, unequal widths, or over 8 columns"
+            }
+        }
+    }
 }
 
 /// Why an evaluation, or its release, is refused.
@@ -180,6 +228,18 @@ impl StateFault {
             35 => StateFault::StageLeft,
             36 => StateFault::Over,
             _ => unreachable!("an evaluation is refused with 31 to 36"),
+        }
+    }
+
+    /// What the fault means.
+    pub fn meaning(self) -> &'static str {
+        match self {
+            StateFault::NotClear => "a FILTER operand, JOIN key or GROUP key is not clear",
+            StateFault::Forbidden => "the cell's label forbids the APPLY or GROUP",
+            StateFault::OperandNotClear => "APPLY's second operand is not clear",
+            StateFault::TooMany => "the UNION or JOIN would make more than 256 rows",
+            StateFault::StageLeft => "at the release the cell has a stage of its label left",
+            StateFault::Over => "at the release the cell is OVER, a result out of range",
         }
     }
 }
@@ -230,14 +290,16 @@ impl Refusal {
 
 impl fmt::Display for InputRefusal {
     fn fmt(&self, f: &mut fmt::Formatter<'_>) -> fmt::Result {
-        write!(f, "refused with {} at byte {}", self.fault.number(), self.offset)
+        let InputRefusal { fault, offset } = self;
+        write!(f, "refused with {} at byte {offset}: {}", fault.number(), fault.meaning())
     }
 }
 
 impl fmt::Display for StateRefusal {
     fn fmt(&self, f: &mut fmt::Formatter<'_>) -> fmt::Result {
         let StateRefusal { fault, step, row, column, .. } = self;
-        write!(f, "refused with {} at step {step}, row {row}, column {column}", fault.number())
+        let (number, meaning) = (fault.number(), fault.meaning());
+        write!(f, "refused with {number} at step {step}, row {row}, column {column}: {meaning}")
     }
 }
 
@@ -281,8 +343,6 @@ impl Monitor {
 
     /// Evaluates a container's plan, and releases a table or refuses.
     pub fn run(&mut self, container: &[u8]) -> Result<Release, Refusal> {
-        // No step has kind 0, so a zero kind ends the finished steps.
-        self.trace.fill(0);
         let mut answer = [0u64; 4];
         // Each pointer comes from a slice of the length given with it, and no two
         // of them overlap.
@@ -306,7 +366,8 @@ impl Monitor {
         match number {
             0 => {
                 let values = self.output[..first * second].to_vec();
-                Ok(Release { rows: first, columns: second, values, trace: self.lines() })
+                let trace = self.lines(plan_steps(container));
+                Ok(Release { rows: first, columns: second, values, trace })
             }
             11..=19 => {
                 let fault = InputFault::from_number(number);
@@ -317,14 +378,16 @@ impl Monitor {
                 step: first,
                 row: second,
                 column: third,
-                trace: self.lines(),
+                trace: self.lines(first),
             })),
         }
     }
 
-    fn lines(&self) -> Vec<Line> {
-        let finished = self.trace.chunks(4).take_while(|line| line[0] != 0);
-        finished
+    /// The lines of the finished steps. What lies past them is of an earlier run.
+    fn lines(&self, finished: usize) -> Vec<Line> {
+        self.trace
+            .chunks(4)
+            .take(finished)
             .map(|line| Line {
                 kind: Kind::from_number(line[0]),
                 rows: line[1],
@@ -333,6 +396,12 @@ impl Monitor {
             })
             .collect()
     }
+}
+
+/// The steps of an accepted container's plan, all finished by a release: its length
+/// in bytes, at most 1,024, stands at bytes 6 and 7.
+fn plan_steps(container: &[u8]) -> usize {
+    (usize::from(container[6]) + 256 * usize::from(container[7])) / 16
 }
 
 /// The input checks alone.

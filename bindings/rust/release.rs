@@ -1,78 +1,110 @@
-//! The monitor program of document 01, in Rust.
+//! The release monitor as a command for scripts, in Rust.
 //!
-//!     rustc -O --edition 2021 -L native=DIRECTORY -l static=cilunovay \
-//!         -o release bindings/rust/release.rs
-//!     release < CONTAINER
-//!     release FILE..
+//! ```text
+//! rustc -O --edition 2024 -L native=target/staticlib -o release bindings/rust/release.rs
+//! release < CONTAINER
+//! release FILE..
+//! ```
 //!
 //! Prints a line for each finished step, then the released rows or the refusal.
 //! Given files, it prints the name of each before its lines.
+//!
+//! Exit status: 0 every container is released; 1 one is refused; 2 something could
+//! not be read or written, and then nothing that was printed is to be used. A
+//! descriptor that is closed when the program begins counts as /dev/null: Rust puts
+//! that in its place.
 
-#[allow(dead_code)]
 mod cilunovay;
 
 use cilunovay::{Line, Monitor, Refusal, LONGEST_CONTAINER};
-use std::fmt::Write as _;
-use std::io::{self, Read, Write as _};
+use std::ffi::OsString;
+use std::io::{self, Read, Write};
+use std::os::unix::ffi::OsStrExt;
+use std::process::ExitCode;
 
-fn main() {
-    let names: Vec<String> = std::env::args().skip(1).collect();
-    let mut monitor = Monitor::new();
-    let mut text = String::new();
-    if names.is_empty() {
-        print_run(&mut monitor, &read(io::stdin(), "standard input"), &mut text);
-    }
-    for name in &names {
-        let file = std::fs::File::open(name).unwrap_or_else(|error| fail(name, error));
-        writeln!(text, "{name}").unwrap();
-        print_run(&mut monitor, &read(file, name), &mut text);
-    }
-    io::stdout().write_all(text.as_bytes()).unwrap_or_else(|error| fail("standard output", error));
+const RELEASED: u8 = 0;
+const REFUSED: u8 = 1;
+const BROKEN: u8 = 2;
+
+fn main() -> ExitCode {
+    let names: Vec<OsString> = std::env::args_os().skip(1).collect();
+    let mut text = Vec::new();
+    let status = run(&names, &mut text).and_then(|status| {
+        let mut out = io::stdout();
+        out.write_all(&text).and_then(|()| out.flush()).map_err(|error| named("standard output", error))?;
+        Ok(status)
+    });
+    ExitCode::from(status.unwrap_or_else(|message| {
+        let _ = writeln!(io::stderr(), "release: {message}");
+        BROKEN
+    }))
 }
 
-fn fail(name: &str, error: io::Error) -> ! {
-    eprintln!("{name}: {error}");
-    std::process::exit(2)
+fn named(name: &str, error: io::Error) -> String {
+    format!("{name}: {error}")
+}
+
+/// Runs the container of standard input, or those of the files, and adds to the
+/// text what is to be printed.
+fn run(names: &[OsString], text: &mut Vec<u8>) -> Result<u8, String> {
+    let mut monitor = Monitor::new();
+    if names.is_empty() {
+        let container = read(io::stdin()).map_err(|error| named("standard input", error))?;
+        return Ok(print_run(&mut monitor, &container, text));
+    }
+    let mut status = RELEASED;
+    for name in names {
+        let container = std::fs::File::open(name)
+            .and_then(read)
+            .map_err(|error| named(&name.to_string_lossy(), error))?;
+        text.extend_from_slice(name.as_bytes());
+        text.push(b'\n');
+        status = status.max(print_run(&mut monitor, &container, text));
+    }
+    Ok(status)
 }
 
 /// At most one byte more than the longest container, so that a longer one is
 /// refused.
-fn read(source: impl Read, name: &str) -> Vec<u8> {
+fn read(source: impl Read) -> io::Result<Vec<u8>> {
     let mut bytes = Vec::new();
-    if let Err(error) = source.take(LONGEST_CONTAINER as u64 + 1).read_to_end(&mut bytes) {
-        fail(name, error)
-    }
-    bytes
+    source.take(LONGEST_CONTAINER as u64 + 1).read_to_end(&mut bytes)?;
+    Ok(bytes)
 }
 
-fn print_run(monitor: &mut Monitor, container: &[u8], text: &mut String) {
+fn print_run(monitor: &mut Monitor, container: &[u8], text: &mut Vec<u8>) -> u8 {
     match monitor.run(container) {
         Ok(release) => {
-            print_lines(&release.trace, text);
-            for row in release.iter() {
-                text.push('R');
-                for value in row {
-                    write!(text, " {value}").unwrap();
-                }
-                text.push('\n');
+            print_steps(&release.trace, text);
+            for row in &release {
+                print_line("R", row, text);
             }
+            RELEASED
         }
         Err(refusal) => {
-            print_lines(refusal.trace(), text);
-            let number = refusal.number();
+            print_steps(refusal.trace(), text);
+            let number = refusal.number() as usize;
             match refusal {
-                Refusal::Input(at) => writeln!(text, "X {number} {}", at.offset).unwrap(),
-                Refusal::State(at) => {
-                    writeln!(text, "X {number} {} {} {}", at.step, at.row, at.column).unwrap()
-                }
+                Refusal::Input(at) => print_line("X", &[number, at.offset], text),
+                Refusal::State(at) => print_line("X", &[number, at.step, at.row, at.column], text),
             }
+            REFUSED
         }
     }
 }
 
-fn print_lines(trace: &[Line], text: &mut String) {
+fn print_steps(trace: &[Line], text: &mut Vec<u8>) {
     for (step, line) in trace.iter().enumerate() {
         let Line { kind, rows, columns, stages_left } = line;
-        writeln!(text, "S {step} {} {rows} {columns} {stages_left}", kind.number()).unwrap();
+        print_line("S", &[step as u32, kind.number(), *rows, *columns, *stages_left], text);
     }
+}
+
+fn print_line(letter: &str, numbers: &[impl ToString], text: &mut Vec<u8>) {
+    text.extend_from_slice(letter.as_bytes());
+    for number in numbers {
+        text.push(b' ');
+        text.extend_from_slice(number.to_string().as_bytes());
+    }
+    text.push(b'\n');
 }

@@ -1,11 +1,11 @@
 //! Tests of the Rust wrapper on the containers of a folder.
 //!
-//!     rustc --edition 2021 --test -L native=DIRECTORY -l static=cilunovay \
-//!         -o wrapper tests/bindings/wrapper.rs
-//!     CONTAINERS=crates/trials/data wrapper
+//! ```text
+//! rustc --edition 2021 --test -L native=target/staticlib -o wrapper tests/bindings/wrapper.rs
+//! CONTAINERS=crates/trials/data wrapper
+//! ```
 
 #[path = "../../bindings/rust/cilunovay.rs"]
-#[allow(dead_code)]
 mod cilunovay;
 
 use cilunovay::{check, InputFault, Kind, Line, Monitor, Refusal, Release, StateFault};
@@ -40,15 +40,35 @@ fn the_printed_case() {
 fn the_printed_case_with_a_minimum_of_3() {
     let refusal = Monitor::new().run(&named("printed_case_minimum_3")).unwrap_err();
     assert_eq!(refusal.number(), 35);
-    assert_eq!(refusal.to_string(), "refused with 35 at step 2, row 0, column 1");
+    assert_eq!(
+        refusal.to_string(),
+        "refused with 35 at step 2, row 0, column 1: at the release the cell has a stage of its label left"
+    );
     assert_eq!(refusal.trace(), [line(Kind::Scan, 2, 2, 2), line(Kind::Group, 1, 2, 1)]);
+}
+
+#[test]
+fn a_release_is_gone_through_row_by_row() {
+    let release = Monitor::new().run(&named("release_256_rows_of_8_columns")).unwrap();
+    let mut rows = 0;
+    for row in &release {
+        assert_eq!((row.len(), row[0]), (8, rows));
+        rows += 1;
+    }
+    assert_eq!((rows, release.iter().count()), (256, release.rows));
+    assert!(release.clone().into_iter().eq(release.iter()));
+    let empty = Monitor::new().run(&named("release_no_rows")).unwrap();
+    assert_eq!((&empty).into_iter().count(), 0);
 }
 
 #[test]
 fn no_bytes_at_all() {
     let refusal = check(&[]).unwrap_err();
     assert_eq!((refusal.fault, refusal.offset), (InputFault::Container, 0));
-    assert_eq!(refusal.to_string(), "refused with 11 at byte 0");
+    assert_eq!(
+        refusal.to_string(),
+        "refused with 11 at byte 0: the container is too long or too short, or its part count is wrong"
+    );
     assert_eq!(Monitor::new().run(&[]), Err(Refusal::Input(refusal)));
 }
 

@@ -1,0 +1,298 @@
+"""Bad inputs of tools/container and tools/explain, each with the one line that the script says of it."""
+
+NUMBER = "a number has decimal digits and, below zero, a minus before them"
+MEANT = "what is meant to be wrong says so in its section 'answer'"
+REPEAT = "a repetition is written 'repeat N: LINE', with a space behind the colon"
+PAIRS = "bytes are pairs of hexadecimal digits, as in '00 FF'"
+MINIMUM = "A(sum,10) asks for a sum over at least 10 rows"
+COLON = "has a colon and no label right behind it; a clear cell is '5', a labelled one '5:A(sum,2)'"
+BRACKET = "has a bracket without its other one; a label has no spaces"
+LABEL = "is no label; a label has eight hexadecimal digits, or stages as A(sum,2)"
+CUT = "is not cut1 to cut6, cut with the digits that it must take off"
+FIELD = "is no field with its number, each once; the fields are kind a b c d spare constant"
+NAME = "a container is begun by 'container' and one name of a to z, 0 to 9 and _, of at most 100 characters"
+TOO_MUCH = "makes more than 16,777,216 bytes and repeated characters to here"
+BLAME = "the output was changed, is not that of CONTAINER, or is misread by this script"
+
+# Rows of a table of one column, in line 6 of ROW_TEXT.
+ROW_TEXT = "container a\n# x\nplan\n  SCAN 0\ntable 1\n  {}\n"
+ROWS = [
+    ("5:", f"'5:' {COLON}"),
+    ("5: A(sum,2)", f"'5:' {COLON}"),
+    ("5 :A(sum,2)", "':A(sum,2)' has no value before its colon"),
+    ("5:A(sum, 10)", f"'5:A(sum,' {BRACKET}"),
+    ("5:A(sum,2", f"'5:A(sum,2' {BRACKET}"),
+    ("5:T(cut1,cut4)", "in 'T(cut1,cut4)' cut stands twice"),
+    ("5:T(cut4,cut2)", "in 'T(cut4,cut2)' cut stands twice"),
+    ("5:T(add,add)", "in 'T(add,add)' add stands twice"),
+    ("5:A(sum,sum,2)", "in 'A(sum,sum,2)' sum stands twice"),
+    ("5:A(10,sum)", f"in 'A(10,sum)' the group minimum 10 does not stand last; {MINIMUM}"),
+    ("5:A(sum)", f"in 'A(sum)' there is no group minimum; {MINIMUM}"),
+    ("5:A()", f"in 'A()' there is no group minimum; {MINIMUM}"),
+    ("5:A(sum,0)", "the group minimum '0' is not between 1 and 1,023"),
+    ("5:A(sum,1024)", "the group minimum '1024' is not between 1 and 1,023"),
+    ("5:A(sum,-1)", "the group minimum '-1' is not between 1 and 1,023"),
+    ("5:A(,2)", "in 'A(,2)' an operation is missing beside a comma"),
+    ("5:T(cut3,)", "in 'T(cut3,)' an operation is missing beside a comma"),
+    ("5:T", "'T' is no stage; T has one pair of brackets, and stages are joined by '+'"),
+    ("5:H()", "'H()' is no stage; H stands alone, and stages are joined by '+'"),
+    ("5:T(cut3)A(sum,2)", "'T(cut3)A(sum,2)' is no stage; T has one pair of brackets, and stages are joined by '+'"),
+    ("5:T(cut3)+", "a stage is missing beside '+'"),
+    ("5:t(cut3)", "'t(cut3)' is no stage; the stages are H, T(..), A(..) and N(..)"),
+    ("5:A(sum,2)+T(cut3)", "in 'A(sum,2)+T(cut3)' T stands behind A; the order is H, T, A, N"),
+    ("5:A(sum,2)+A(count,3)", "in 'A(sum,2)+A(count,3)' A stands twice"),
+    ("5:T(cut)", f"'cut' {CUT}"),
+    ("5:T(cut7)", f"'cut7' {CUT}"),
+    ("5:T(sum)", "'sum' is no operation of T, which has add, sub, cut1 to cut6 and band"),
+    ("5:A(add,2)", "'add' is no operation of A, which has count, sum, min, max and avg"),
+    ("5:2002002", f"'2002002' {LABEL}"),
+    ("5:0x20020002", f"'0x20020002' {LABEL}"),
+    (
+        "5:20030000",
+        "table 0, row 0, column 0 has the label 20030000: A is present with a group minimum of 0, and this is 1 to 1,023"
+        f" (15 at byte 46; {MEANT})",
+    ),
+    ("0x10", f"'0x10' is not a number; {NUMBER}"),
+    ("1_000", f"'1_000' is not a number; {NUMBER}"),
+    ("+5", f"'+5' is not a number; {NUMBER}"),
+    ("1.5", f"'1.5' is not a number; {NUMBER}"),
+    ("7,3", f"'7,3' is not a number; {NUMBER}"),
+    ("\u0663", "the character U+0663 stands outside a comment"),
+    ("5\u00a06", "the character U+00A0 stands outside a comment"),
+    ("5\x00", "the character U+0000 stands outside a comment"),
+    ("5 # note", f"'#' is not a number; {NUMBER}"),
+    ("9" * 30, f"the value '{'9' * 30}' is not between -9,223,372,036,854,775,808 and 9,223,372,036,854,775,807"),
+    (
+        "140737488355328",
+        "table 0, row 0, column 0 has a value outside -140,737,488,355,328 .. 140,737,488,355,327"
+        f" (14 at byte 38; {MEANT})",
+    ),
+    ("1 2", "a row of 2 cells in a table of 1 column"),
+    ("{i}", "'{' stands only in a line behind 'repeat N: '"),
+    ("repeat 3:5", f"'repeat 3:5': {REPEAT}"),
+    ("repeat: 5", f"'repeat: 5': {REPEAT}"),
+    ("repeat 99999999: 5", "the number of lines '99999999' is not between 0 and 1,000"),
+    ("repeat 3: repeat 3: 5", "a repetition does not stand in another one"),
+    ("repeat 3: {i/0}", "'{i/0}' divides by 0"),
+    ("repeat 3: {i%0}", "'{i%0}' divides by 0"),
+    ("repeat 3: {j}", "'{j}' is not i with at most 9 operations by numbers of at most 9 digits, as in {i*3+1}"),
+    ("repeat 9: {i" + "*999999999" * 9 + "}", "'{i" + "*999999999" * 5 + "*9999999..' becomes too large"),
+    ("bytes 0", f"'0' is no byte; {PAIRS}"),
+    ("zeros 99999999", "the number of zeros '99999999' is not between 0 and 131,072"),
+    ("5" * 5000, "this line has more than 4,096 characters"),
+]
+
+# Steps in line 5 of STEP_TEXT, behind a SCAN, over a table of two columns.
+STEP_TEXT = "container a\n# x\nplan\n  SCAN 0\n  {}\ntable 2\n  1 2\n"
+STEPS = [
+    ("repeat 3:SCAN 0", f"'repeat 3:SCAN 0': {REPEAT}"),
+    ("SCAN", "'SCAN': SCAN is written as in 'SCAN 0'"),
+    ("SCAN 0 1", "'SCAN 0 1': SCAN is written as in 'SCAN 0'"),
+    ("SCAN 0;", "a step is missing beside ';'"),
+    ("SCAN x", f"'x' is not a number; {NUMBER}"),
+    ("SCAN 300", "the table '300' is not between 0 and 255"),
+    ("SCAN 5", f"step 1, SCAN of table 5: table 5 does not exist: the container has 1 table, table 0 (19 at byte 34; {MEANT})"),
+    ("select 0", "'select' is no step; there are SCAN UNION JOIN FILTER KEEP APPLY GROUP"),
+    ("UNION", f"step 1, UNION: it needs 2 tables, and the steps before it leave 1 (18 at byte 34; {MEANT})"),
+    ("SCAN 0", f"the plan ends and leaves 2 tables, and it must leave one (18 at byte 50; {MEANT})"),
+    ("JOIN 0", "'JOIN 0': JOIN is written as in 'JOIN 0 1'"),
+    ("FILTER 1 == 5", "'==' is no comparison; there are = != < <= > >="),
+    ("FILTER 1 >=", "'FILTER 1 >=': FILTER is written as in 'FILTER 1 >= 5' or 'FILTER 1 < column 2'"),
+    (
+        "FILTER 1 = column 9",
+        "step 1, FILTER for rows whose column 1 = column 9: column 9 does not exist: the table that it reads has 2 columns, 0 to 1"
+        f" (19 at byte 34; {MEANT})",
+    ),
+    ("KEEP", f"step 1, KEEP, a wrong record: it keeps no column (17 at byte 34; {MEANT})"),
+    ("KEEP 9", "the column '9' is not between 0 and 7"),
+    ("KEEP 1 0", "columns rise, each once, and 1 0 do not"),
+    ("APPLY 1 mul 3", "'mul' is no operation; there are add sub cut band"),
+    ("APPLY 1 cut 7", f"step 1, APPLY, a wrong record: the constant of cut is 1 to 6 and not 7 (17 at byte 34; {MEANT})"),
+    (
+        "APPLY 1 cut column 0",
+        f"step 1, APPLY, a wrong record: cut takes a constant, so c is zero and not 1 (17 at byte 34; {MEANT})",
+    ),
+    ("GROUP 0 sum", "'GROUP 0 sum': GROUP is written as in 'GROUP 0 1 sum 2' or 'GROUP count 0'"),
+    ("GROUP 0 median 1", "'median' is no aggregate; there are count sum min max avg"),
+    ("GROUP sum sum 1", f"'sum' is not a number; {NUMBER}"),
+    ("KEEP 0 with x=1", f"'x=1' {FIELD}"),
+    ("KEEP 0 with d=1 d=2", f"'d=2' {FIELD}"),
+    ("KEEP 0 with d=1", f"step 1, KEEP, a wrong record: d is 1, and this step does not use it, so it is zero (17 at byte 34; {MEANT})"),
+    ("STEP kind=9", f"step 1, a record of kind 9: kind 9 does not exist; they are 1 to 7 (17 at byte 34; {MEANT})"),
+    ("answers check", "'answers check' or 'answers run' stands before the first container"),
+]
+
+# Whole texts, each with the line that the message names.
+GOOD_TEXT = "container a\n# x\nplan\n  SCAN 0\ntable 1\n  5\n"
+TEXTS = [
+    ("", None, "there is no container in it"),
+    (b"\xff\xfe\n", 1, "byte 0 is not UTF-8, so this is no text"),
+    (b"container a\n# \xe9\n", 2, "byte 14 is not UTF-8, so this is no text"),
+    ("hello\n", 1, "'hello' stands before the first line 'container NAME'"),
+    ("container A\n", 1, f"'container A': {NAME}"),
+    ("container a b\n", 1, f"'container a b': {NAME}"),
+    (GOOD_TEXT * 2, 7, "there is another container 'a'"),
+    ("answers\n" + GOOD_TEXT, 1, "'answers check' or 'answers run' stands before the first container"),
+    ("answers maybe\n" + GOOD_TEXT, 1, "'maybe' is no kind of answers; there are check run"),
+    ("container a\nplan\n", 1, "a has no comment, a line with # that says what it shows"),
+    ("container a\n# x\n", 1, "a has no plan"),
+    ("container a\n# x\n5\n", 3, "'5' stands before the first section; sections are plan table part raw damage answer"),
+    ("container a\n# x\nplan\n  SCAN 0\n", 1, "a has no table"),
+    ("container a\n# x\ntable 1\n  5\n", 1, "a has no plan; its section comes before the tables"),
+    ("container a\n# x\ntable 1\n  5\nplan\n", 5, "the plan is the first part, and there is one"),
+    (
+        "container a\n# x\nplan\n  repeat 65: SCAN 0\ntable 1\n",
+        3,
+        f"the plan has 1,040 bytes, and it has 1 to 64 steps of 16 bytes (16 at byte 18; {MEANT})",
+    ),
+    (
+        "container a\n# x\nplan\n  SCAN 0\ntable 1\n  repeat 300: 5\n",
+        5,
+        f"table 0: it has 300 rows, and a table has at most 256 (13 at byte 34; {MEANT})",
+    ),
+    (
+        "container a\n# x\nplan\n  SCAN 0\ntable 9\n  1 2 3 4 5 6 7 8 9\n",
+        5,
+        f"table 0: it has 9 columns, and a table has 1 to 8 (13 at byte 34; {MEANT})",
+    ),
+    (
+        GOOD_TEXT + "table 1\n" * 8,
+        1,
+        f"its part count is 10, and it is 2 to 9: the plan and 1 to 8 tables (11 at byte 0; {MEANT})",
+    ),
+    (GOOD_TEXT + "table\n", 7, "a table is begun by 'table' and its number of columns, as in 'table 2'"),
+    (GOOD_TEXT + "table 300\n", 7, "the number of columns '300' is not between 0 and 255"),
+    (GOOD_TEXT + "plan 1\n", 7, "the section 'plan' is begun by a line with this word alone"),
+    (GOOD_TEXT + "raw\n", 7, "'raw' is the whole container, so there is no other part"),
+    (GOOD_TEXT + "part\n  5\n", 8, "a section 'part' has lines 'bytes 00 FF' and 'zeros 15' alone"),
+    ("container a\n# x\nraw\n  zz\n", 4, f"'zz' is no byte; {PAIRS}"),
+    (
+        GOOD_TEXT + "damage\n  break 5\n",
+        8,
+        "'break' is no damage; there are count offset length columns spare rows bytes truncate append",
+    ),
+    (GOOD_TEXT + "damage\n  count\n", 8, "count has 1 number behind it"),
+    (GOOD_TEXT + "damage\n  offset 9 5\n", 8, "byte 77 is past the end"),
+    (GOOD_TEXT + "damage\n  rows 1 5\n", 8, "the table '1' is not between 0 and 0"),
+    (GOOD_TEXT + "damage\n  append zeros 131072\n", 8, "a has more than 131,072 bytes"),
+    (GOOD_TEXT + "damage\n" + "  count 2\n" * 101, 108, "a container has at most 100 lines of damage"),
+    (GOOD_TEXT + "answer\n" + f"  repeat 1000: {'x' * 4000}\n" * 5, 12, f"the text {TOO_MUCH}"),
+    (GOOD_TEXT + "answer\n" + "  repeat 1000: R 5\n" * 300, 258, f"the text {TOO_MUCH}"),
+    ("#" * (4 * 2**20 + 1), None, "it has more than 4,194,304 bytes"),
+    (
+        "".join(f"container c{i}\n# x\nraw\n  zeros 131072\n" for i in range(128)),
+        512,
+        f"the text {TOO_MUCH}",
+    ),
+]
+
+# Outputs of the printed case, damaged; `explain CONTAINER` reads them. What the monitor prints for it:
+PRINTED = "S 0 1 2 2 2\nS 1 7 1 2 0\nR 7 8\n"
+WITH_CONTAINER = [
+    ("", "standard input is empty, and the monitor always prints a line"),
+    ("S 0 1 2 2 2\nS 1 7 1 2 0\nR 7 8", "line 3: it has no newline at its end: the output was cut off"),
+    ("S 0 1 2 2 2\nS 1 7 1 2 0\nR 7\n", "line 3: it is a row of 1 value, and the table has 2 columns"),
+    ("S 0 1 2 2 2\nS 1 7 1 2 0\n", "after line 2: the table has 1 row, and 0 are printed"),
+    ("S 0 1 2 2 2\nS 1 7 1 2 0\nR 7 8\nR 7 8\n", "line 4: it is row 1, and the table has 1 row"),
+    ("S 0 1 2 2 2\nS 1 7 1 2 1\nR 7 8\n", "line 3: it is a released row, and the last step leaves 1 stage, and a release has none"),
+    ("S 0 1 2 2 2\n", "after line 1: there is neither a release nor a refusal: the last step leaves 2 stages, and a release has none"),
+    ("S 1 7 1 2 0\nR 7 8\n", "line 1: it is the line of step 1, and step 0 comes next"),
+    ("R 5\n", "line 1: it is a released row, and no step is finished"),
+    ("S 0 1 2 2 2\nS 1 7 1 2 0\nR 7 9\n", f"line 3: it is a row with other values than the container gives there: {BLAME}"),
+    (
+        "S 0 1 2 2 2\nS 1 6 2 3 2\nX 35 2 0 1\n",
+        f"line 2: it says kind 6, and step 1 of the container, GROUP by column 0, sum of column 1, has kind 7: {BLAME}",
+    ),
+    (
+        "S 0 1 3 2 2\nS 1 7 1 2 0\nR 7 8\n",
+        f"line 1: it says 3 rows, and step 0 of the container, SCAN of table 0, makes 2: {BLAME}",
+    ),
+    (
+        "S 0 1 2 3 2\nS 1 7 1 2 0\nR 7 8\n",
+        f"line 1: it says 3 columns, and step 0 of the container, SCAN of table 0, makes 2: {BLAME}",
+    ),
+    (
+        "S 0 1 2 2 1\nS 1 7 1 2 0\nR 7 8\n",
+        f"line 1: it says 1 stage left, and step 0 of the container, SCAN of table 0, leaves 2: {BLAME}",
+    ),
+    ("S 0 1 0 2 0\n", f"line 1: it says 0 rows, and step 0 of the container, SCAN of table 0, makes 2: {BLAME}"),
+    (
+        "S 0 1 2 2 2\nS 1 7 1 2 0\nX 36 2 0 1\n",
+        f"line 3: it is refusal 36 at 2 0 1, and by the container a released row stands here: {BLAME}",
+    ),
+    ("X 15 46\n", f"line 1: it is refusal 15 at 46, and by the container the line of step 0 stands here: {BLAME}"),
+    ("X 15 701\n", f"line 1: it is refusal 15 at 701, and by the container the line of step 0 stands here: {BLAME}"),
+    (PRINTED + "X 36 2 0 1\n", "line 4: it is a refusal, and stands behind a released row"),
+    ("printed_case\n" + PRINTED, "line 1: 'printed_case' is no line of the monitor; its lines begin with S, R or X"),
+    (PRINTED.replace("\n", "\r\n"), "line 1: it ends in a carriage return: the output was changed on its way"),
+]
+# Outputs that cannot be any container's; `explain` reads them without one.
+ALONE = [
+    ("\n", "line 1: '' is no line of the monitor; its lines begin with S, R or X"),
+    ("S 0 1 2 2\n", "line 1: it is not S and five numbers"),
+    ("S 0 1 2 2 02\n", "line 1: it is not S and numbers behind single spaces"),
+    ("S 0  1 2 2 2\n", "line 1: it is not S and numbers behind single spaces"),
+    ("S 0 9 2 2 2\n", "line 1: kind 9 does not exist"),
+    ("S 0 1 257 2 2\n", "line 1: no table has 257 rows"),
+    ("S 0 1 2 9 2\n", "line 1: no table has 9 columns"),
+    ("S 0 1 2 2 17\n", "line 1: 2 rows of 2 columns cannot have 17 stages left"),
+    ("S 0 2 2 2 2\n", "line 1: UNION needs 2 tables, and the steps before it leave none"),
+    ("S 0 1 2 2 2\nS 1 5 1 2 0\n", "line 2: a KEEP cannot make 1 row of 2 columns with 0 stages left here"),
+    ("S 0 1 1 1 0\nR 140737488355328\n", "line 2: it has a number out of the range of values"),
+    ("S 0 1 1 1 0\nS 1 1 1 1 0\nR 5\n", "line 3: it is a released row, and the steps so far leave 2 tables, and one is released"),
+    ("X 12 0\n", "line 1: refusal 12 cannot stand at byte 0"),
+    ("X 12 99999\n", "line 1: refusal 12 cannot stand at byte 99999"),
+    ("X 11 5\n", "line 1: refusal 11 cannot stand at byte 5"),
+    ("X 17 19\n", "line 1: refusal 17 cannot stand at byte 19"),
+    ("X 12\n", "line 1: the place of refusal 12 is one number"),
+    ("X 31 1 0\n", "line 1: the place of refusal 31 is three numbers"),
+    ("X 99 0\n", "line 1: refusal 99 does not exist"),
+    ("X 1 0 0 1\n", "line 1: the place of refusal 1 is 0 0 0"),
+    ("X 31 0 0 0\n", "line 1: refusal 31 needs a table, and no step is finished"),
+    ("S 0 1 2 2 2\nX 12 2\n", "line 2: refusal 12 comes before the first step, and a step is finished"),
+    ("S 0 1 2 2 2\nX 31 2 0 0\n", "line 2: it is a refusal at step 2, and step 1 comes next"),
+    ("S 0 1 2 2 2\nX 31 1 2 0\n", "line 2: there is no row 2, column 0 in what step 1 can read"),
+    ("S 0 1 2 2 0\nX 32 1 0 0\n", "line 2: refusal 32 needs a cell with a label, and no stage is left"),
+    ("S 0 1 2 2 2\nX 34 1 256 0\n", "line 2: no UNION or JOIN of these tables makes more than 256 rows"),
+    ("S 0 1 2 2 0\nX 35 1 0 0\n", "line 2: the last step leaves 0 stages, and 35 is another refusal"),
+    ("S 0 1 2 2 2\nX 35 1 2 0\n", "line 2: the last table has no row 2, column 0"),
+    ("X 11 0\nX 11 0\n", "line 2: it stands behind the refusal, which ends the output"),
+]
+
+# Commands that run as processes in a folder with the files TEXT, CONTAINER, OUTPUT and LATIN and the folder FOLDER: the words, the file
+# for standard input, the exit status and the line on standard error.
+COMMANDS = [
+    ("container", None, 2, "container: there is no command; -h prints help"),
+    ("container brew", None, 2, "container: 'brew' is no command; -h prints help"),
+    ("container --fast", None, 2, "container: '--fast' is no option; -h prints help"),
+    ("container make TEXT", None, 2, "container: 'make' has 2 words behind it and not 1; -h prints help"),
+    ("container make MISSING OUT", None, 2, "container: MISSING: No such file or directory"),
+    ("container make FOLDER OUT", None, 2, "container: FOLDER: Is a directory"),
+    ("container make LATIN OUT", None, 2, "container: LATIN:1: byte 2 is not UTF-8, so this is no text"),
+    ("container make /dev/zero OUT", None, 2, "container: /dev/zero: it has more than 4,194,304 bytes"),
+    ("container make TEXT TEXT", None, 2, "container: TEXT: File exists"),
+    ("container make TEXT TEXT/OUT", None, 2, "container: TEXT/OUT: Not a directory"),
+    ("container make CONTAINER OUT", None, 2, "container: CONTAINER:1: the character U+0002 stands outside a comment"),
+    ("container verify TEXT MISSING", None, 2, "container: MISSING: No such file or directory"),
+    ("container expect TEXT", None, 2, "container: TEXT:1: a has no answer"),
+    ("container show MISSING", None, 2, "container: MISSING: No such file or directory"),
+    ("container show FOLDER", None, 2, "container: FOLDER: Is a directory"),
+    ("container show /dev/zero", None, 2, "container: /dev/zero: it has more than 131,072 bytes, so it is no container"),
+    ("container label T(cut1,cut4)", None, 2, "container: in 'T(cut1,cut4)' cut stands twice"),
+    ("container label 0", None, 2, f"container: '0' {LABEL}"),
+    ("explain --fast", "OUTPUT", 2, "explain: '--fast' is no option; -h prints help"),
+    ("explain CONTAINER OUTPUT", "OUTPUT", 2, "explain: there is one word, the container's file, and not 2; -h prints help"),
+    ("explain MISSING", "OUTPUT", 2, "explain: MISSING: No such file or directory"),
+    ("explain FOLDER", "OUTPUT", 2, "explain: FOLDER: Is a directory"),
+    ("explain", "FOLDER", 2, "explain: standard input: Is a directory"),
+    ("explain", "/dev/zero", 1, "explain: standard input has more than 65,536 bytes, and the monitor prints less"),
+    ("explain", "CONTAINER", 1, "explain: line 1: '\\x02\\x00\\x12\\x00\\x00\\x00 \\x00\\x00\\x002\\x00\\x00\\x004\\x00\\x00\\x00\\x01\\x00..' is no line"),
+    (
+        "explain TEXT",
+        "OUTPUT",
+        1,
+        "explain: line 1: it is the line of step 0, and by the container refusal 11 at 0 stands here:"
+        " the output was changed, is not that of TEXT, or is misread by this script",
+    ),
+    ("explain /dev/zero", "OUTPUT", 1, None),
+]

@@ -1,0 +1,180 @@
+"""A seeded generator of damaged texts, outputs and containers."""
+import random
+
+WORDS = (
+    "5: 5:A(sum,2) 5:A(10,sum) T(cut1,cut4) T() H+ 20030000 -1 0 00 01067 0x10 1_000 9999999999999999999999 {i} {i/0} {i*9+1} "
+    "repeat repeat 3: 999999: with d=1 STEP kind=9 bytes 00 FF zeros 70000 SCAN UNION JOIN FILTER KEEP APPLY GROUP count sum avg "
+    "column = <= cut band add plan table 2 part raw damage answer answers check container append truncate offset X S R 31 35 ; # "
+    "\u0663 \u00a0 ( ) , : +"
+).split(" ")
+CHARACTERS = "0123456789:;(),+-{}#=SRXHTAN \n\t\r\x00\u00e9\u2028"
+
+
+def damaged_text(rng, text):
+    """The text after one to four changes of characters, words or lines."""
+    for _ in range(rng.randint(1, 4)):
+        text = rng.choice((character, word, line))(rng, text)
+    return text
+
+
+def character(rng, text):
+    at = rng.randint(0, len(text))
+    change = rng.randrange(4)
+    if change == 0:
+        return text[:at] + rng.choice(CHARACTERS) + text[at:]
+    if change == 1:
+        return text[:at] + text[at + rng.randint(1, 3) :]
+    if change == 2:
+        return text[:at] + rng.choice(CHARACTERS) + text[at + 1 :]
+    return text[:at] if rng.random() < 0.2 else text
+
+
+def word(rng, text):
+    """A word replaced, added or dropped."""
+    lines = text.split("\n")
+    at = rng.randrange(len(lines))
+    words = lines[at].split(" ")
+    place = rng.randrange(len(words) + 1)
+    words[place : place + rng.randrange(2)] = rng.choice(([], [rng.choice(WORDS)], [rng.choice(WORDS), rng.choice(WORDS)]))
+    lines[at] = " ".join(words)
+    return "\n".join(lines)
+
+
+def line(rng, text):
+    """A line dropped, doubled, moved, or followed by a new one."""
+    lines = text.split("\n")
+    at, other = rng.randrange(len(lines)), rng.randrange(len(lines))
+    change = rng.randrange(4)
+    if change == 0:
+        del lines[at]
+    elif change == 1:
+        lines.insert(other, lines[at])
+    elif change == 2:
+        lines[at], lines[other] = lines[other], lines[at]
+    else:
+        lines.insert(at, " ".join(rng.choice(WORDS) for _ in range(rng.randint(1, 4))))
+    return "\n".join(lines)
+
+
+def number(rng, text):
+    """A number of a line raised, lowered or replaced."""
+    lines = text.split("\n")
+    at = rng.randrange(max(len(lines) - 1, 1))
+    words = lines[at].split(" ")
+    place = rng.randrange(len(words))
+    if words[place].lstrip("-").isascii() and words[place].lstrip("-").isdigit():
+        changed = rng.choice((int(words[place][:30]) + rng.choice((-1, 1, 8, 256)), rng.choice((0, 1, 7, 2**47, -(2**47)))))
+        words[place] = str(changed)
+    lines[at] = " ".join(words)
+    return "\n".join(lines)
+
+
+def damaged_output(rng, text):
+    """An output after one or two changes, most of them of numbers."""
+    for _ in range(rng.randint(1, 2)):
+        text = rng.choice((number, number, line, character))(rng, text)
+    return text
+
+
+def damaged_bytes(rng, data):
+    """A container after one to three changes of bytes."""
+    data = bytearray(data)
+    for _ in range(rng.randint(1, 3)):
+        at = rng.randrange(len(data) + 1)
+        change = rng.randrange(5)
+        if change == 0:
+            data[at:at] = bytes(rng.choice((1, 4, 12, 16)))
+        elif change == 1:
+            del data[at : at + rng.choice((1, 4, 12, 16))]
+        else:
+            data[at : at + 1] = bytes([rng.choice((0, 1, 2, 8, 255, rng.randrange(256)))])
+    return bytes(data)
+
+
+# Containers that pass the input checks
+
+
+def value(rng):
+    return rng.choice((0, 1, 2, 7, -1, 10, 99, 12345, -12345, 2**47 - 1, -(2**47), rng.randint(-20, 20)))
+
+
+LABELS = (
+    ["", "", "", "H", "T()", "T(add)", "T(cut2)", "T(sub,band)", "N()", "N(noise)", "A(1)", "A(sum,1)", "A(sum,2)", "A(count,2)"]
+    + ["A(count,sum,min,max,avg,3)", "T(cut1)+A(sum,2)", "T(add,band)+A(avg,1)", "A(sum,1)+N()", "H+A(sum,1)", "A(min,max,2)"]
+)
+
+
+def table(rng, labelled):
+    """A table of few rows; each column has labels or none."""
+    columns = rng.randint(1, 4)
+    marked = [labelled and rng.random() < 0.4 for _ in range(columns)]
+    lines = [f"table {columns}"]
+    for _ in range(rng.choice((0, 1, 2, 3, 5, 8))):
+        lines.append("  " + " ".join(cell(rng, one) for one in marked))
+    return columns, lines
+
+
+def cell(rng, marked):
+    label = rng.choice(LABELS) if marked else ""
+    return f"{value(rng)}:{label}" if label else str(value(rng))
+
+
+def operand(rng, width):
+    return f"column {rng.randrange(width)}" if rng.random() < 0.4 else str(value(rng))
+
+
+def next_step(rng, widths, stack):
+    """A step that fits the widths on the stack, and the widths after it."""
+    if not stack or (len(stack) < 3 and rng.random() < 0.25):
+        t = rng.randrange(len(widths))
+        return f"SCAN {t}", stack + [widths[t]]
+    if len(stack) > 1 and rng.random() < 0.5:
+        left, right = stack[-2:]
+        if left == right and rng.random() < 0.5:
+            return "UNION", stack[:-2] + [left]
+        if left + right - 1 <= 8:
+            return f"JOIN {rng.randrange(left)} {rng.randrange(right)}", stack[:-2] + [left + right - 1]
+    width = stack[-1]
+    some = sorted(rng.sample(range(width), rng.randint(1, width)))
+    kind = rng.randrange(4)
+    if kind == 0:
+        return f"FILTER {rng.randrange(width)} {rng.choice(('=', '!=', '<', '<=', '>', '>='))} {operand(rng, width)}", stack
+    if kind == 1 and width < 8:
+        by = rng.choice((f"add {operand(rng, width)}", f"sub {operand(rng, width)}", f"cut {rng.randint(1, 6)}", f"band {rng.randint(1, 30)}"))
+        return f"APPLY {rng.randrange(width)} {by}", stack[:-1] + [width + 1]
+    if kind == 2 and len(some) < 8:
+        keys = some[: rng.randint(0, len(some))]
+        by = f"{rng.choice(('count', 'sum', 'min', 'max', 'avg'))} {rng.randrange(width)}"
+        return " ".join(["GROUP", *map(str, keys), by]), stack[:-1] + [len(keys) + 1]
+    return " ".join(["KEEP", *map(str, some)]), stack[:-1] + [len(some)]
+
+
+def closing_step(rng, stack):
+    """A step that leaves one table fewer, or a KEEP on the way to it."""
+    left, right = stack[-2:]
+    if left == right:
+        return "UNION", stack[:-2] + [left]
+    if left + right - 1 <= 8:
+        return f"JOIN {rng.randrange(left)} {rng.randrange(right)}", stack[:-2] + [left + right - 1]
+    return "KEEP 0", stack[:-1] + [1]
+
+
+def right_text(rng, name):
+    """The text of a container that passes the input checks."""
+    tables = [table(rng, rng.random() < 0.8) for _ in range(rng.randint(1, 3))]
+    widths = [columns for columns, _ in tables]
+    plan, stack = [], []
+    for _ in range(rng.randint(1, 8)):
+        step, stack = next_step(rng, widths, stack)
+        plan.append(f"  {step}")
+    while len(stack) > 1:
+        step, stack = closing_step(rng, stack)
+        plan.append(f"  {step}")
+    lines = [f"container {name}", "# generated", "plan", *plan]
+    for _, rows in tables:
+        lines += rows
+    return "\n".join(lines) + "\n"
+
+
+def seeded(seed):
+    return random.Random(seed)

@@ -1,0 +1,128 @@
+"""Containers that are refused, each with the sentence by which `explain CONTAINER` says why."""
+
+# The lines of the plan, the lines of the tables, and the sentence.
+STATE = [
+    (
+        ["SCAN 0", "GROUP 0 sum 1"],
+        ["table 2", "repeat 12: 1 5:A(count,sum,10)", "repeat 4: 2 5:A(count,sum,10)"],
+        "Step 1, group 1, first row: row 12 of table 0, has 4 rows; A(count,sum,10) asks for 10.",
+    ),
+    (
+        ["SCAN 0", "GROUP 0 avg 1"],
+        ["table 2", "repeat 12: 1 5:A(count,sum,10)"],
+        "Step 1, group 0, first row: row 0 of table 0, has 12 rows; avg is not among count, sum (A(count,sum,10)).",
+    ),
+    (
+        ["SCAN 0", "GROUP 0 avg 1"],
+        ["table 2", "repeat 4: 1 5:A(count,sum,10)"],
+        "has 4 rows; avg is not among count, sum (A(count,sum,10)), and A(count,sum,10) asks for 10.",
+    ),
+    (
+        ["SCAN 0", "SCAN 1", "JOIN 0 0", "FILTER 0 = 2", "GROUP 2 sum 1"],
+        ["table 2", "1 5:A(sum,3)", "2 6:A(sum,3)", "2 7:A(sum,3)", "table 2", "1 9", "2 9"],
+        "Step 4, group 0, first row: row 1 of table 0 joined with row 1 of table 1, has 2 rows; A(sum,3) asks for 3.",
+    ),
+    (
+        ["SCAN 0", "SCAN 1", "UNION", "GROUP sum 0"],
+        ["table 1", "table 1", "5:A(sum,2)"],
+        "Step 3, group 0, first row: row 0 of table 1, has 1 row; A(sum,2) asks for 2.",
+    ),
+    (
+        ["SCAN 0", "APPLY 0 cut 3"],
+        ["table 1", "12345:T(cut3)"],
+        "labelled T(cut3): T(cut3) asks for an APPLY of cut by at least 3 digits. KEEP drops the column where it is not to be published.",
+    ),
+    (
+        ["SCAN 0", "APPLY 0 add 1", "KEEP 1"],
+        ["table 1", "12345:T(cut3,band)"],
+        "Step 1, APPLY of add 1 to column 0, made it of row 0, column 0 of table 0: add is not among cut, band (T(cut3,band)).",
+    ),
+    (
+        ["SCAN 0", "APPLY 0 cut 3", "KEEP 1"],
+        ["table 1", "12345:T(cut3)+A(sum,2)"],
+        "T is gone; A(sum,2) asks for a GROUP with sum over at least 2 rows.",
+    ),
+    # 31: a label left on a count, too few digits cut, a raw column
+    (
+        ["SCAN 0", "GROUP 0 count 1", "FILTER 1 >= 2"],
+        ["table 2", "1 5:A(count,3)", "1 6:A(count,3)"],
+        "Step 1, group 0, first row: row 0 of table 0, has 2 rows; A(count,3) asks for 3.",
+    ),
+    (
+        ["SCAN 0", "APPLY 0 cut 2", "GROUP 1 count 0"],
+        ["table 1", "12345:T(cut3)"],
+        "Step 1, APPLY of cut 2 to column 0, made it of row 0, column 0 of table 0: it cut 2 digits off, and T(cut3) asks for at least 3.",
+    ),
+    (
+        ["SCAN 0", "FILTER 0 = 5"],
+        ["table 1", "5:T(band)"],
+        "It is row 0, column 0 of table 0 as the container has it, labelled T(band): T(band) asks for an APPLY of band.",
+    ),
+    # 32
+    (
+        ["SCAN 0", "GROUP sum 0"],
+        ["table 1", "5:T(cut3,band)+A(sum,2)"],
+        "labelled T(cut3,band)+A(sum,2): first APPLY cut by at least 3 digits or APPLY band, then GROUP with the column that the APPLY appends.",
+    ),
+    (
+        ["SCAN 0", "APPLY 0 cut 1", "GROUP sum 1"],
+        ["table 1", "5:T(cut2)+A(sum,1)"],
+        "it cut 1 digit off, and T(cut2) asks for at least 2. The label is T(cut2)+A(sum,1): first APPLY cut by at least 2 digits, then GROUP",
+    ),
+    (
+        ["SCAN 0", "APPLY 0 add 1"],
+        ["table 1", "5:H"],
+        "labelled H: no step removes H, so no APPLY or GROUP may use the cell, and it is never released.",
+    ),
+    # 33, 34, 36
+    (
+        ["SCAN 0", "APPLY 0 add column 1"],
+        ["table 2", "5 6:A(sum,2)"],
+        "It is row 0, column 1 of table 0 as the container has it, labelled A(sum,2): A(sum,2) asks for a GROUP with sum over at least 2 rows.",
+    ),
+    (
+        ["SCAN 0", "SCAN 0", "UNION"],
+        ["table 1", "repeat 200: 5"],
+        "The left table has 200 rows and the right one 200 rows; the step would make 400 rows.",
+    ),
+    (
+        ["SCAN 0", "GROUP sum 0"],
+        ["table 1", "140737488355327", "1"],
+        "Step 1, GROUP of all rows, sum of column 0, made it.",
+    ),
+]
+
+# Plans and tables that the input checks refuse.
+INPUT = [
+    (["SCAN 2"], ["table 1", "table 1"], "Step 0, SCAN of table 2: table 2 does not exist: the container has 2 tables, 0 to 1."),
+    (
+        ["SCAN 0", "SCAN 1", "UNION"],
+        ["table 2", "table 3"],
+        "Step 2, UNION: the left table has 2 columns and the right one 3 columns, and UNION needs equal widths.",
+    ),
+    (["SCAN 0", "SCAN 1", "JOIN 2 0"], ["table 2", "table 3"], "column 2 does not exist: the left table has 2 columns, 0 to 1."),
+    (["SCAN 0", "SCAN 1", "JOIN 0 3"], ["table 2", "table 3"], "column 3 does not exist: the right table has 3 columns, 0 to 2."),
+    (
+        ["SCAN 0", "SCAN 0", "JOIN 0 0"],
+        ["table 5"],
+        "it would make 9 columns, 5 of the left table and 4 of the right one, and 8 are the most.",
+    ),
+    (["SCAN 0", "KEEP 0 4"], ["table 2"], "column 4 does not exist: the table that it reads has 2 columns, 0 to 1."),
+    (["SCAN 0", "GROUP 0 sum 1"], ["table 1"], "column 1 does not exist: the table that it reads has 1 column, column 0."),
+    (["SCAN 0", "APPLY 0 add column 7"], ["table 2"], "column 7 does not exist: the table that it reads has 2 columns, 0 to 1."),
+    (["SCAN 0", "APPLY 0 add 1"], ["table 8"], "Step 1, APPLY of add 1 to column 0: it would make 9 columns, and 8 are the most."),
+    (["SCAN 0", "SCAN 0", "SCAN 0", "SCAN 0"], ["table 1"], "Step 3, SCAN of table 0: it is a SCAN onto 3 tables, and 3 are the most."),
+    (["FILTER 0 = 5"], ["table 1"], "it needs 1 table, and the steps before it leave none."),
+    (["SCAN 0", "SCAN 0"], ["table 1"], "The plan ends and leaves 2 tables, and it must leave one."),
+    (["STEP kind=4 b=6"], ["table 1"], "Step 0, FILTER, a wrong record: comparison 6 does not exist; they are 0 to 5."),
+    (["SCAN 0 with spare=1"], ["table 1"], "Step 0, SCAN, a wrong record: one of its bytes 5 to 7 is not zero."),
+    (["FILTER 0 = 5 with c=2"], ["table 1"], "c is 2, and it is 0 for the constant or 1 for a column."),
+    (["SCAN 0"], ["table 1", "5:00000001"], "has the label 00000001: it has a group minimum, 1, and A (bit 29) is absent."),
+    (["SCAN 0"], ["table 1", "5:20030000"], "has the label 20030000: A is present with a group minimum of 0, and this is 1 to 1,023."),
+    (["SCAN 0"], ["table 1", "5:44000000"], "has the label 44000000: it allows cut with 0 digits, and these are 1 to 6."),
+    (["SCAN 0"], ["table 1", "5:41000400"], "has the label 41000400: it has digits, 1, and cut (bit 26) is not allowed."),
+    (["SCAN 0"], ["table 1", "5:01000000"], "has the label 01000000: it allows add at T, and T (bit 30) is absent."),
+    (["SCAN 0"], ["table 1", "5:00020000"], "has the label 00020000: it allows sum at A, and A (bit 29) is absent."),
+    (["SCAN 0"], ["table 1", "5:00800000"], "has the label 00800000: it allows noise at N, and N (bit 28) is absent."),
+    (["SCAN 0"], ["table 1", "5:80402000"], "has the label 80402000: bits 22, 21, 15, 14 and 13 are zero, and here 22, 13 are not."),
+]

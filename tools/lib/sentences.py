@@ -1,0 +1,238 @@
+"""Sentences for the monitor's output: what each step made, why it refused, and what to do."""
+import labels
+import steps
+from evaluate import FromApply, FromTable, TableRow, cut_digits, joined_count
+from words import plural
+
+# What a refusal says of itself where the container is not at hand. docs/REFUSALS.md has the same numbers.
+INPUT = {
+    11: "the container's length, its part count or the room for its directory is wrong",
+    12: "the directory does not lay the parts one after the other to the container's end",
+    13: "a table's header or length is wrong",
+    14: "a value is out of range",
+    15: "a label is ill-formed",
+    16: "the plan's length is not 1 to 64 steps of 16 bytes",
+    17: "a step's record is wrong",
+    18: "a step finds too few tables or one too many, or the plan does not leave one table",
+    19: "a step names a table or column that does not exist, unequal widths or too many columns",
+}
+STATE = {
+    1: "the program lent the monitor too little memory, and nothing was read",
+    31: "{cell} decides which rows are kept, matched or grouped, and it is not clear",
+    32: "{cell} has a label whose highest stage forbids this operation",
+    33: "{cell} is the second operand, and it is not clear",
+    34: "the step would make more than 256 rows",
+    35: "{cell} still has a stage of its label",
+    36: "{cell} is OVER, a result outside the range of values",
+}
+CAUSES = {
+    31: "Causes: the raw column was used, and not the copy that an APPLY appends; a cut took too few digits off; the operation is not"
+    " among those that the label allows; a count or another aggregate kept its label, because its group has too few rows or the"
+    " label does not allow it; or H or N, which no step removes.",
+    32: "Causes: H, which no step removes; or, in a GROUP, a T that no APPLY has removed: the raw column was aggregated and not its"
+    " copy, a cut took too few digits off, or the operation is not among those that the label allows.",
+    33: "Causes: the operands stand the wrong way round; a labelled column is added to itself; or an earlier step did not remove the"
+    " label, because it cut too few digits off, is not allowed by the label, or had too few rows in a group.",
+    34: "Causes: in a JOIN, keys that repeat on both sides; in a UNION, tables that have more than 256 rows together.",
+    35: "Causes: a group with fewer rows than a label asks for; an aggregate or operation that a label does not allow; a cut that took"
+    " too few digits off; a raw column left in beside its copy; or H or N, which no step removes.",
+    36: "Causes: a sum, a difference or a band left the range of values, or one of its operands was OVER already.",
+}
+# The clerk's action for each number, the same words as in docs/REFUSALS.md.
+ACTIONS = {
+    1: "Tell the vendor of the program that calls the monitor. Your file is not at fault.",
+    11: "See that it is the right file and send it again, byte for byte. If it is refused again, ask whoever wrote it for a new one.",
+    12: "Send the file again, byte for byte and not as text. If it is refused again, tell the vendor of the program that wrote it.",
+    13: "Ask whoever wrote the table for a new one. Never have the rows of one precinct put into two tables.",
+    14: "Ask whoever wrote the table to correct the cell.",
+    15: "Ask whoever sets the labels to write this one again. Never have it set to zero.",
+    16: "Ask the analyst for the plan again.",
+    17: "Ask the analyst to write the step again.",
+    18: "Ask the analyst to mend the plan.",
+    19: "Ask the analyst to mend the plan.",
+    31: "Ask the analyst to change the plan. Never ask for the label to be taken off.",
+    32: "Ask the analyst to change the plan. Never ask for the label to be taken off.",
+    33: "Ask the analyst to change the plan. Never ask for the label to be taken off.",
+    34: "Ask the analyst for a report over fewer rows. Never have the rows of one precinct split between reports.",
+    35: "Publish nothing of it, no other row either. Ask the analyst for larger groups or fewer columns.",
+    36: "Ask the analyst for another column or a coarser unit.",
+}
+
+
+UNKNOWN = "Whether this is the answer to a container, only the container can tell."
+
+
+# Where a cell comes from, and why a label is left on it
+
+
+def row_place(origin):
+    """A row's origin in words."""
+    return " joined with ".join(
+        f"row {at.row} of table {at.table}" if isinstance(at, TableRow) else f"group {at.row} of step {at.step}"
+        for at in origin
+    )
+
+
+def source_place(source):
+    if isinstance(source, FromTable):
+        return f"row {source.row}, column {source.column} of table {source.table}"
+    if isinstance(source, FromApply):
+        return f"what step {source.step} made"
+    return f"the aggregate of group {source.group} in step {source.step}"
+
+
+def not_among(name, allowed):
+    return f"{name} is not among {', '.join(allowed)}" if allowed else f"{name} is not allowed, nor is anything else"
+
+
+def apply_reason(step, label):
+    """Why an APPLY left a stage on this label."""
+    name, top = labels.TRANSFORMS[step.b], labels.highest(label)
+    if top != "T":
+        return f"an APPLY removes T alone; {labels.asks(label, top)}"
+    if labels.allows_transform(label, step.b, cut_digits(step)):
+        rest = labels.without_t(label)
+        return f"T is gone; {labels.asks(rest, labels.highest(rest))}"
+    text = labels.stage_text(label, "T")
+    if step.b == steps.CUT and "cut" in labels.transforms(label):
+        return f"it cut {plural(step.constant, 'digit')} off, and {text} asks for at least {labels.digits(label)}"
+    return f"{not_among(name, labels.transforms(label))} ({text})"
+
+
+def group_reason(step, label, rows):
+    """Why a GROUP over so many rows left a stage on this label."""
+    name, top = labels.AGGREGATES[step.b], labels.highest(label)
+    if top == "N":
+        return labels.asks(label, "N")
+    text, reasons = labels.stage_text(label, "A"), []
+    if not labels.allows_aggregate(label, step.b):
+        reasons.append(f"{not_among(name, labels.aggregates(label))} ({text})")
+    if labels.minimum(label) > rows:
+        reasons.append(f"{text} asks for {labels.minimum(label)}")
+    return ", and ".join(reasons) or f"A is gone; {labels.asks(labels.without_a(label), 'N')}"
+
+
+def left_on(cell, plan):
+    """Why a cell has a label, in a sentence."""
+    source, text = cell.source, labels.label_text(cell.label)
+    if isinstance(source, FromTable):
+        asked = labels.asks(cell.label, labels.highest(cell.label))
+        return f"It is {source_place(source)} as the container has it, labelled {text}: {asked}."
+    step = plan[source.step]
+    if isinstance(source, FromApply):
+        made = f"Step {source.step}, {steps.described(step)}, made it of {source_place(source.first.source)}"
+        return f"{made}: {apply_reason(step, source.first.label)}."
+    rows = len(source.members)
+    kept = next(member for member in source.members if labels.after_a(member.label, step.b, rows))
+    group = f"Step {source.step}, group {source.group}, first row: {row_place(source.first)}, has {plural(rows, 'row')}"
+    return f"{group}; {group_reason(step, kept.label, rows)}."
+
+
+def forbidden(cell, plan):
+    """What 32 says of a cell: its label, and what to apply first."""
+    if not labels.removable(cell.label, labels.highest(cell.label)):
+        return left_on(cell, plan)
+    text, operations = labels.label_text(cell.label), [f"APPLY {name}" for name in labels.applications(cell.label)]
+    advice = f"first {labels.either(operations)}, then GROUP with the column that the APPLY appends"
+    if isinstance(cell.source, FromTable):
+        return f"It is {source_place(cell.source)} as the container has it, labelled {text}: {advice}."
+    return f"{left_on(cell, plan)} The label is {text}: {advice}."
+
+
+def too_many(step, stack):
+    left, right = (len(table.rows) for table in stack[-2:])
+    made = left + right if step.kind == steps.UNION else joined_count(step, *stack[-2:])
+    both = f"The left table has {plural(left, 'row')} and the right one {plural(right, 'row')}"
+    return f"{both}; the step would make {plural(made, 'row')}."
+
+
+def over(cell, plan):
+    """Which step made an OVER cell."""
+    return f"Step {cell.source.step}, {steps.described(plan[cell.source.step])}, made it."
+
+
+class Explained:
+    """The sentences for the lines of an output; `reading` is that of the container, or None."""
+
+    def __init__(self, lines, reading):
+        self.lines, self.reading = lines, reading
+        self.plan = reading.plan if reading else []
+        self.result = reading.result if reading else None
+
+    def sentences(self):
+        last = self.lines[-1]
+        said = [self.step(*line.numbers) for line in self.lines if line.letter == "S"]
+        if last.letter == "X":
+            return said + self.refused(last.numbers[0], last.numbers[1:])
+        rows = [line.numbers for line in self.lines if line.letter == "R"]
+        said += [f"Released row {row}: {', '.join(map(str, values))}." for row, values in enumerate(rows)]
+        columns = self.lines[len(self.lines) - len(rows) - 1].numbers[3]
+        return said + [self.whole(len(rows), columns)]
+
+    def whole(self, rows, columns):
+        shape = f"{plural(rows, 'row')} of {plural(columns, 'column')}"
+        if self.reading:
+            return f"The release is whole: {shape}."
+        return f"These lines fit one another: {shape}. {UNKNOWN}"
+
+    def name(self, k, kind=0):
+        words = steps.described(self.plan[k]) if k < len(self.plan) else steps.KINDS[kind]
+        return f"Step {k}, {words}" if words else f"Step {k}"
+
+    def step(self, k, kind, rows, columns, stages):
+        left = f"{plural(stages, 'stage')} left" if stages else "no stage left"
+        return f"{self.name(k, kind)}: {plural(rows, 'row')} of {plural(columns, 'column')}, {left}."
+
+    def refused(self, number, place):
+        if number in INPUT:
+            said = self.refused_input(number, *place)
+        elif number == 1:
+            said = [f"The run is refused (1): {STATE[1]}."]
+        else:
+            said = self.refused_state(number, *place)
+        said += ["Nothing is released.", f"What to do: {ACTIONS[number]} (docs/REFUSALS.md has more on {number}.)"]
+        return said if self.reading else said + [UNKNOWN]
+
+    def refused_input(self, number, place):
+        said = [f"The container is refused ({number}) at byte {place}: {INPUT[number]}."]
+        if self.reading:
+            reason = self.reading.refusal.reason
+            said.append(f"{reason[0].upper()}{reason[1:]}.")
+        return said
+
+    def refused_state(self, number, k, row, column):
+        who = "The release" if number > 34 else self.name(k)
+        said = [f"{who} is refused ({number}): {STATE[number].format(cell=self.cell_place(number, k, row, column))}."]
+        return said + [self.reason(number, k, row, column) if self.reading else CAUSES[number]]
+
+    def sides(self, number, k, row):
+        """Which table a row of a refusal is of, counted from the top of the stack, and the row's number there."""
+        if number == 31 and self.plan[k].kind == steps.JOIN:
+            left = len(self.result.stack[-2].rows)
+            return (-2, row) if row < left else (-1, row - left)
+        return -1, row
+
+    def cell_place(self, number, k, row, column):
+        """A cell of the table that the step reads, or of the table that would be released."""
+        if number > 34:
+            return f"row {row}, column {column} of the last table"
+        if not self.reading:
+            join = " (in a JOIN the right rows are numbered on from the left ones)" if number == 31 else ""
+            return f"row {row}, column {column} of what it reads{join}"
+        if self.plan[k].kind == steps.JOIN:
+            table, at = self.sides(number, k, row)
+            return f"row {at}, column {column} of the {'left' if table == -2 else 'right'} table"
+        return f"row {row}, column {column} of the table it reads"
+
+    def reason(self, number, k, row, column):
+        """What the container shows of a refusal because of the state."""
+        if number == 34:
+            return too_many(self.plan[k], self.result.stack)
+        table, at = self.sides(number, k, row) if number < 35 else (-1, row)
+        cell = self.result.stack[table].rows[at].cells[column]
+        if number == 32:
+            return forbidden(cell, self.plan)
+        if number == 36:
+            return over(cell, self.plan)
+        raw = number == 35 and isinstance(cell.source, FromTable)
+        return left_on(cell, self.plan) + " KEEP drops the column where it is not to be published." * raw

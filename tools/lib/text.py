@@ -1,0 +1,490 @@
+"""The text form of containers. docs/CONTAINER.md describes it."""
+import contextlib
+import os
+import re
+import struct
+from bisect import bisect_right
+
+import labels
+import layout
+import steps
+from console import Failure, plain, quoted, read_file
+from words import Fault, choice, number, plural
+
+# Bounds, so that every text is read in little time and memory.
+LONGEST_TEXT = 4 * 2**20  # bytes of a text
+LONGEST_LINE = 4096  # characters of a line
+MOST_REPEATED = 1000  # lines that one 'repeat' stands for
+LONGEST_MADE = 2 * layout.LONGEST  # bytes of a container, a wrong one too
+MOST_DAMAGE = 100  # directives for a container
+LONGEST_OF_ALL = 16 * 2**20  # bytes of all containers of a text, 1,024 for each, and characters of repeated lines, 64 for each
+
+SECTIONS = ("plan", "table", "part", "raw", "damage", "answer")
+PAIRS = "pairs of hexadecimal digits, as in '00 FF'"
+
+
+@contextlib.contextmanager
+def at_line(line):
+    """Puts the line's number to a fault that has none."""
+    try:
+        yield
+    except Fault as fault:
+        if fault.line is None:
+            fault.line = line
+        raise
+
+
+class Budget:
+    """What a text may still make, in bytes and characters."""
+
+    def __init__(self):
+        self.left = LONGEST_OF_ALL
+
+    def take(self, count):
+        self.left -= count
+        if self.left < 0:
+            raise Fault(f"the text makes more than {LONGEST_OF_ALL:,} bytes and repeated characters to here")
+
+
+# Lines
+
+
+def counted(text, i):
+    """The text with each {i}, {i*3+1} and so on replaced. '/' is the quotient, rounded down; operations go left to right."""
+
+    def value(match):
+        inside = re.fullmatch(r"i((?:[-+*/%][0-9]{1,9}){0,9})", match[1])
+        if not inside:
+            raise Fault(f"{quoted(match[0])} is not i with at most 9 operations by numbers of at most 9 digits, as in {{i*3+1}}")
+        n = i
+        for sign, digits in re.findall(r"([-+*/%])([0-9]+)", inside[1]):
+            by = int(digits)
+            if sign in "/%" and by == 0:
+                raise Fault(f"{quoted(match[0])} divides by 0")
+            n = {"+": n + by, "-": n - by, "*": n * by, "/": n // (by or 1), "%": n % (by or 1)}[sign]
+            if abs(n) >= 2**63:
+                raise Fault(f"{quoted(match[0])} becomes too large")
+        return str(n)
+
+    return re.sub(r"\{([^{}]*)\}", value, text)
+
+
+def repeated(line, budget):
+    """The lines that 'repeat N: LINE' stands for, or the line itself."""
+    if line.split(None, 1)[0] != "repeat" and not line.startswith("repeat:"):
+        if "{" in line:
+            raise Fault("'{' stands only in a line behind 'repeat N: '")
+        return [line]
+    m = re.fullmatch(r"repeat ([0-9]+): +(\S.*)", line)
+    if not m:
+        raise Fault(f"{quoted(line)}: a repetition is written 'repeat N: LINE', with a space behind the colon")
+    if m[2].startswith("repeat"):
+        raise Fault("a repetition does not stand in another one")
+    times = number(m[1], 0, MOST_REPEATED, "the number of lines")
+    budget.take(times * (len(m[2]) + 64))
+    return [counted(m[2], i) for i in range(times)]
+
+
+def hex_bytes(words):
+    wrong = [word for word in words if not re.fullmatch("[0-9A-Fa-f]{2}", word)]
+    if wrong or not words:
+        raise Fault(f"{quoted(' '.join(wrong[:1]))} is no byte; bytes are {PAIRS}")
+    return bytes(int(word, 16) for word in words)
+
+
+def zeros_or_bytes(words):
+    if words[:1] != ["zeros"]:
+        return hex_bytes(words)
+    if len(words) != 2:
+        raise Fault(f"{quoted(' '.join(words))}: zeros is written as in 'zeros 15'")
+    return bytes(number(words[1], 0, LONGEST_MADE, "the number of zeros"))
+
+
+def cell_bytes(text):
+    """A cell: its value, or its value, a colon and its label."""
+    value, colon, label = text.partition(":")
+    if colon and not label:
+        forms = f"a clear cell is {quoted(value)}, a labelled one '5:A(sum,2)'"
+        raise Fault(f"{quoted(text)} has a colon and no label right behind it; {forms}")
+    if colon and not value:
+        raise Fault(f"{quoted(text)} has no value before its colon")
+    if text.count("(") != text.count(")"):
+        raise Fault(f"{quoted(text)} has a bracket without its other one; a label has no spaces")
+    return struct.pack("<qI", number(value, what="the value"), labels.label_word(label) if colon else 0)
+
+
+def cell_text(value, label):
+    return f"{value}:{labels.label_text(label)}" if label else str(value)
+
+
+# One container
+
+
+class Part:
+    """A part as the text gives it: its bytes, of a table those behind its header, and the lines that they come from."""
+
+    def __init__(self, section, line, columns=None):
+        self.section, self.line, self.columns = section, line, columns
+        self.body, self.rows, self.marks = bytearray(), 0, []
+
+    def add(self, data, line, budget):
+        budget.take(len(data))
+        if not self.marks or self.marks[-1][1] != line:
+            self.marks.append((len(self.body), line))
+        self.body += data
+        if len(self.body) > LONGEST_MADE:
+            raise Fault(f"this part has more than {LONGEST_MADE:,} bytes")
+
+    def header(self):
+        return b"" if self.columns is None else struct.pack("<BBH", self.columns, 0, self.rows)
+
+    def made(self):
+        return self.header() + self.body
+
+    def line_of(self, place):
+        """The line that the byte at a place of the part comes from."""
+        if place < len(self.header()) or not self.marks:
+            return self.line
+        return self.marks[bisect_right(self.marks, (place - len(self.header()), 2**62)) - 1][1]
+
+
+class Source:
+    """A container of a text."""
+
+    def __init__(self, name, line, budget):
+        self.name, self.line, self.budget = name, line, budget
+        self.comments, self.answer, self.parts, self.damage = [], [], [], []
+        self.raw = None
+
+    # Reading
+
+    def begin(self, words, line):
+        """Begins the section that a line names."""
+        section = words[0]
+        if section == "table":
+            if len(words) != 2:
+                raise Fault("a table is begun by 'table' and its number of columns, as in 'table 2'")
+            self.add_part(Part("table", line, number(words[1], 0, 255, "the number of columns")))
+        elif len(words) != 1:
+            raise Fault(f"the section '{section}' is begun by a line with this word alone")
+        elif section == "plan" and self.parts:
+            raise Fault("the plan is the first part, and there is one")
+        elif section in ("plan", "part"):
+            self.add_part(Part(section, line))
+        elif section == "raw":
+            if self.parts or self.raw is not None:
+                raise Fault("'raw' is the whole container, so there is no other part")
+            self.raw = Part("raw", line)
+
+    def add_part(self, part):
+        if self.raw is not None:
+            raise Fault("'raw' is the whole container, so there is no other part")
+        if len(self.parts) == 65535:
+            raise Fault("there are more than 65,535 parts")
+        self.parts.append(part)
+
+    def add(self, section, line, count):
+        """Adds a line to the section that was begun."""
+        if section == "answer":
+            self.answer += repeated(line, self.budget)
+        elif section == "raw":
+            self.raw.add(zeros_or_bytes(line.split()), count, self.budget)
+        elif section == "damage":
+            self.damage.append((count, line.split()))
+            if len(self.damage) > MOST_DAMAGE:
+                raise Fault(f"a container has at most {MOST_DAMAGE} lines of damage")
+        elif section in ("plan", "table", "part"):
+            for one in repeated(line, self.budget):
+                self.add_to_part(self.parts[-1], one, count)
+        else:
+            raise Fault(f"{quoted(line)} stands before the first section; sections are {' '.join(SECTIONS)}")
+
+    def add_to_part(self, part, line, count):
+        words = line.split()
+        if words[0] == "bytes":
+            part.add(hex_bytes(words[1:]), count, self.budget)
+        elif words[0] == "zeros":
+            part.add(zeros_or_bytes(words), count, self.budget)
+        elif part.section == "plan":
+            for step in line.split(";"):
+                part.add(steps.pack(steps.from_words(step.split())), count, self.budget)
+        elif part.section == "table":
+            self.add_row(part, words, count)
+        else:
+            raise Fault("a section 'part' has lines 'bytes 00 FF' and 'zeros 15' alone")
+
+    def add_row(self, part, words, count):
+        row = b"".join(map(cell_bytes, words))
+        if len(words) != part.columns:
+            raise Fault(f"a row of {plural(len(words), 'cell')} in a table of {plural(part.columns, 'column')}")
+        if part.rows == 65535:
+            raise Fault("this table has more than 65,535 rows")
+        part.add(row, count, self.budget)
+        part.rows += 1
+
+    # Making
+
+    def marked_wrong(self):
+        """Whether the text says that the container is wrong: by what it is made of, or by its answer."""
+        made_wrong = self.raw is not None or self.damage or any(part.section == "part" for part in self.parts)
+        return bool(made_wrong) or bool(self.answer and re.fullmatch("X 1[1-9] [0-9]+", self.answer[0]))
+
+    def made(self):
+        """The container's bytes."""
+        if not self.comments:
+            raise Fault(f"{self.name} has no comment, a line with # that says what it shows")
+        if self.raw is None and not self.parts:
+            raise Fault(f"{self.name} has no plan")
+        whole = bytearray(self.raw.body) if self.raw is not None else self.assembled()
+        for line, words in self.damage:
+            with at_line(line):
+                whole = self.damaged(whole, words)
+        if len(whole) > LONGEST_MADE:
+            raise Fault(f"{self.name} has more than {LONGEST_MADE:,} bytes")
+        if not self.marked_wrong():
+            self.check(bytes(whole))
+        return bytes(whole)
+
+    def assembled(self):
+        parts = [part.made() for part in self.parts]
+        at = layout.pair_at(len(parts))
+        whole = bytearray(struct.pack("<H", len(parts)))
+        for part in parts:
+            whole += struct.pack("<II", at, len(part))
+            at += len(part)
+        return whole + b"".join(parts)
+
+    def starts(self):
+        """Where each part begins."""
+        at, starts = layout.pair_at(len(self.parts)), []
+        for part in self.parts:
+            starts.append(at)
+            at += len(part.made())
+        return starts
+
+    def check(self, data):
+        """A container that is not marked as wrong passes the input checks."""
+        if self.parts[0].section != "plan":
+            raise Fault(f"{self.name} has no plan; its section comes before the tables")
+        if len(self.parts) == 1:
+            raise Fault(f"{self.name} has no table")
+        refusal = layout.check(data)
+        if refusal is None:
+            return
+        hint = f"{refusal.number} at byte {refusal.place}; what is meant to be wrong says so in its section 'answer'"
+        fault = Fault(f"{refusal.reason} ({hint})")
+        fault.line = self.line_of(refusal)
+        raise fault
+
+    def line_of(self, refusal):
+        if refusal.number < 13:
+            return self.line
+        if refusal.number == 16:
+            return self.parts[0].line
+        starts = self.starts()
+        part = 0 if refusal.number > 16 else bisect_right(starts, refusal.place) - 1
+        return self.parts[part].line_of(refusal.place - starts[part])
+
+    # Damage
+
+    def damaged(self, whole, words):
+        """The bytes after one directive of the section 'damage'."""
+        if words[0] not in DIRECTIVES:
+            raise Fault(f"{quoted(words[0])} is no damage; there are {' '.join(DIRECTIVES)}")
+        count, change = DIRECTIVES[words[0]]
+        if not (len(words) - 1 == count if count else len(words) > 1):
+            raise Fault(f"{words[0]} has {'words' if not count else plural(count, 'number')} behind it")
+        changed = change(self, whole, *words[1:])
+        if len(changed) > LONGEST_MADE:
+            raise Fault(f"{self.name} has more than {LONGEST_MADE:,} bytes")
+        return changed
+
+    def header_at(self, table):
+        """Where the header of a table begins."""
+        starts = self.starts()
+        if len(starts) < 2:
+            raise Fault(f"{self.name} has no table")
+        return starts[number(table, 0, len(starts) - 2, "the table") + 1]
+
+
+def put(whole, at, new):
+    if at + len(new) > len(whole):
+        raise Fault(f"byte {at + len(new) - 1:,} is past the end")
+    whole[at : at + len(new)] = new
+    return whole
+
+
+def damage_pair(where):
+    def change(source, whole, part, value):
+        at = layout.pair_at(number(part, 0, 65534, "the part")) + where
+        return put(whole, at, struct.pack("<I", steps.wide(value, 32, "the number")))
+
+    return change
+
+
+def damage_byte(where):
+    def change(source, whole, table, value):
+        return put(whole, source.header_at(table) + where, bytes([steps.wide(value, 8, "the byte")]))
+
+    return change
+
+
+def damage_rows(source, whole, table, value):
+    return put(whole, source.header_at(table) + 2, struct.pack("<H", steps.wide(value, 16, "the number")))
+
+
+def damage_bytes(source, whole, at, *pairs):
+    return put(whole, number(at, 0, LONGEST_MADE, "the offset"), hex_bytes(pairs))
+
+
+# each directive with the numbers that stand behind it (None: at least one word) and what it does
+DIRECTIVES = {
+    "count": (1, lambda source, whole, value: put(whole, 0, struct.pack("<H", steps.wide(value, 16, "the number")))),
+    "offset": (2, damage_pair(0)),
+    "length": (2, damage_pair(4)),
+    "columns": (2, damage_byte(0)),
+    "spare": (2, damage_byte(1)),
+    "rows": (2, damage_rows),
+    "bytes": (None, damage_bytes),
+    "truncate": (1, lambda source, whole, length: whole[: number(length, 0, len(whole), "the length")]),
+    "append": (None, lambda source, whole, *words: whole + zeros_or_bytes(list(words))),
+}
+
+
+# A whole text
+
+
+class Text:
+    """The containers of a text, and whether their answers are those of the input checks or of a run."""
+
+    def __init__(self, path):
+        self.path, self.form, self.sources, self.section = path, "run", [], None
+        self.names, self.budget = set(), Budget()
+        for count, line in enumerate(lines_of(path), 1):
+            self.guarded(count, lambda: self.line(line.strip(" \t\r"), count))
+        if not self.sources:
+            raise Failure(f"{plain(path)}: there is no container in it")
+
+    def guarded(self, line, act):
+        """What `act` answers; a fault of it becomes the script's own line."""
+        try:
+            with at_line(line):
+                return act()
+        except Fault as fault:
+            raise Failure(f"{plain(self.path)}:{fault.line}: {fault}") from None
+
+    def line(self, line, count):
+        if not line:
+            return
+        if line.startswith("#"):
+            if self.sources:
+                self.sources[-1].comments.append(line[1:].strip())
+            return
+        if len(line) > LONGEST_LINE:
+            raise Fault(f"this line has more than {LONGEST_LINE:,} characters")
+        strange = re.search(r"[^\t -~]", line)
+        if strange:
+            raise Fault(f"the character U+{ord(strange[0]):04X} stands outside a comment")
+        self.words(line, line.split(), count)
+
+    def words(self, line, words, count):
+        if words[0] == "answers":
+            self.begin_answers(words)
+        elif words[0] == "container":
+            self.begin_container(words, count)
+        elif not self.sources:
+            raise Fault(f"{quoted(line)} stands before the first line 'container NAME'")
+        elif words[0] in SECTIONS:
+            self.sources[-1].begin(words, count)
+            self.section = words[0]
+        else:
+            self.sources[-1].add(self.section, line, count)
+
+    def begin_answers(self, words):
+        if self.sources or len(words) != 2:
+            raise Fault("'answers check' or 'answers run' stands before the first container")
+        choice(words[1], ["check", "run"], "kind of answers")
+        self.form = words[1]
+
+    def begin_container(self, words, count):
+        if len(words) != 2 or not re.fullmatch("[a-z0-9_]{1,100}", words[1]):
+            form = "'container' and one name of a to z, 0 to 9 and _, of at most 100 characters"
+            raise Fault(f"{quoted(' '.join(words))}: a container is begun by {form}")
+        if words[1] in self.names:
+            raise Fault(f"there is another container '{words[1]}'")
+        self.budget.take(1024)
+        self.names.add(words[1])
+        self.sources.append(Source(words[1], count, self.budget))
+        self.section = None
+
+    def containers(self):
+        """Each container's name and bytes."""
+        return {source.name: self.guarded(source.line, source.made) for source in self.sources}
+
+    def expected(self):
+        """The answers, as the trial programs print them."""
+        lines = []
+        for source in self.sources:
+            if not source.answer:
+                raise Failure(f"{plain(self.path)}:{source.line}: {source.name} has no answer")
+            if self.form == "check":
+                lines.append(f"{source.name} {' '.join(source.answer)}")
+            else:
+                lines += [source.name, *source.answer]
+        return "".join(f"{line}\n" for line in lines)
+
+
+def lines_of(path):
+    data = read_file(path, LONGEST_TEXT)
+    if len(data) > LONGEST_TEXT:
+        raise Failure(f"{plain(path)}: it has more than {LONGEST_TEXT:,} bytes")
+    try:
+        return data.decode("utf-8-sig").split("\n")
+    except UnicodeDecodeError as error:
+        line = data.count(b"\n", 0, error.start) + 1
+        raise Failure(f"{plain(path)}:{line}: byte {error.start:,} is not UTF-8, so this is no text") from None
+
+
+# From bytes to text
+
+
+def lines_of_bytes(data, word=""):
+    return [f"  {word}{data[i : i + 32].hex(' ')}" for i in range(0, len(data), 32)]
+
+
+def shown_plan(part):
+    whole = len(part) // steps.LENGTH * steps.LENGTH
+    plan = [f"  {steps.text(step)}" for step in layout.plan_of(part)]
+    return ["plan", *plan, *lines_of_bytes(part[whole:], "bytes ")]
+
+
+def shown_table(part):
+    if len(part) < 4:
+        return ["part", *lines_of_bytes(part, "bytes ")]
+    columns, spare, rows = layout.header(part)
+    if columns == 0 or spare != 0 or len(part) != 4 + layout.CELL * rows * columns:
+        return ["part", *lines_of_bytes(part, "bytes ")]
+    every = [cell_text(*cell) for cell in layout.cells(part)]
+    return [f"table {columns}"] + ["  " + " ".join(every[k : k + columns]) for k in range(0, len(every), columns)]
+
+
+def shown(path):
+    """A container's file as text; what the input checks refuse is marked as wrong by its answer."""
+    data = read_file(path, LONGEST_MADE)
+    if len(data) > LONGEST_MADE:
+        raise Failure(f"{plain(path)}: it has more than {LONGEST_MADE:,} bytes, so it is no container")
+    name = re.sub("[^a-z0-9_]", "_", os.path.basename(path).lower())[:100] or "_"
+    lines = [f"container {name}", f"# {plural(len(data), 'byte')}"]
+    refusal = layout.check(data)
+    if refusal:
+        lines.append(f"# Refused with {refusal.number} at byte {refusal.place}: {refusal.reason}.")
+    parts = layout.parts_of(data)
+    if parts is None:
+        lines += ["raw", *lines_of_bytes(data)]
+    else:
+        lines += shown_plan(parts[0])
+        for part in parts[1:]:
+            lines += shown_table(part)
+    if refusal:
+        lines += ["answer", f"  X {refusal.number} {refusal.place}"]
+    return "".join(f"{line}\n" for line in lines)
