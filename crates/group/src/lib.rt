@@ -2,10 +2,10 @@
 mod labelling;
 mod made;
 mod member;
-mod step;
+mod partition;
 
+pub use partition::group;
 use plan::Aggregate;
-pub use step::group;
 
 // A GROUP of the table of so many rows and columns from a place of work memory on, and the width of the rows made.
 struct Grouping {

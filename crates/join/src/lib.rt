@@ -1,5 +1,5 @@
 // JOIN over work memory. The rows are made in the last slot, above the two tables, and then copied down to the left table's slot.
+mod joining;
 mod keys;
-mod step;
 
-pub use step::join;
+pub use joining::join;

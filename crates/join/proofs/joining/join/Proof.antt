@@ -1,4 +1,4 @@
--- `join::step::join` meets its contract. Assumes nothing.
+-- `join::joining::join` meets its contract. Assumes nothing.
 use mathlib.Core.Path.{_≡_, sym, ap, _∙_}
 use mathlib.Core.Bool.{true}
 use mathlib.Core.List.{[]}
@@ -17,8 +17,8 @@ use Rattle.plan.specs.declared.Step.the-variants.{Join}
 use Rattle.join.proofs.Ending.{key-done, rows-made-done}
 use Rattle.join.proofs.Meaning.{JoinFits, join-parts, in-labels}
 use Rattle.memory.proofs.Finish.{unfit-done, never-unfit, columns-fit, columns-misfit}
-use Rattle.join.proofs.step.join.Statement.{statement}
-use Rattle.join.proofs.step.join.Tie as tie
+use Rattle.join.proofs.joining.join.Statement.{statement}
+use Rattle.join.proofs.joining.join.Tie as tie
 
 -- the arguments fit
 abbrev told : tie.After-live-table2 → tie.After-columns

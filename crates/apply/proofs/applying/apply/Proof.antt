@@ -1,35 +1,35 @@
--- `group::step::group` meets its contract. Assumes nothing.
+-- `apply::applying::apply` meets its contract. Assumes nothing.
 use mathlib.Core.Path.{_≡_, sym, ap, _∙_}
 use mathlib.Core.Bool.{true}
 use mathlib.Core.List.{[]}
 use lib.ListN.{length}
 use denote.Ref.{now}
 use borrow.Author.Needs.{needs}
+use Rattle.apply_refusal.specs.promises.Refusals.{applySays}
 use Rattle.cells.specs.promises.Search.{says}
 use Rattle.cells.specs.promises.Work.{work}
-use Rattle.group_refusal.specs.promises.Refusals.{groupSays}
 use Rattle.memory.specs.promises.Stack.{widthsTo}
 use Rattle.memory.specs.promises.Steps.{stepSays, fits}
 use Rattle.plan.specs.Verdict.{fine}
 use Rattle.plan.specs.Widths.{columnsExist, madeColumns}
-use Rattle.plan.specs.declared.Step.the-variants.{Group}
+use Rattle.plan.specs.declared.Step.the-variants.{Apply}
 use Rattle.memory.proofs.Finish.{unfit-done, columns-fit, columns-misfit}
-use Rattle.group.proofs.Meaning.{GroupFits, group-parts, source-is, allowed, refused-group, made-group, misfit-first}
-use Rattle.group.proofs.step.group.Statement.{statement}
-use Rattle.group.proofs.step.group.Tie as tie
+use Rattle.apply.proofs.Meaning.{ApplyFits, apply-parts, refused-apply, operand-formed, made-apply, misfit-first}
+use Rattle.apply.proofs.applying.apply.Statement.{statement}
+use Rattle.apply.proofs.applying.apply.Tie as tie
 
 -- the columns fit
 abbrev start : tie.After-live-table → tie.Start
 start c = c .before .before .before .before .before .before
 
 fitted : (c : tie.After-live-table) → let a = start c .args in
-    (fits (Group (a .keys) (a .aggregate) (a .column)) [] (length (now (a .values))) (length (now (a .labels))) (a .stack) ≡ true)
-    × (c .before .before .columns .given .0 .0 ≡ madeColumns (Group (a .keys) (a .aggregate) (a .column)) [] (widthsTo (a .stack) (a .stack .depth)))
+    (fits (Apply (a .column) (a .transform)) [] (length (now (a .values))) (length (now (a .labels))) (a .stack) ≡ true)
+    × (c .before .before .columns .given .0 .0 ≡ madeColumns (Apply (a .column) (a .transform)) [] (widthsTo (a .stack) (a .stack .depth)))
 fitted c = columns-fit _ _ (sym (c .before .before .before .before .fit .ensures) ∙ c .before .before .columns .given .1)
 
 parts : (c : tie.After-live-table) → let a = start c .args in
-    GroupFits (a .keys) (a .column) (length (now (a .values))) (length (now (a .labels))) (a .stack) (c .live-table .result) (c .before .before .columns .given .0 .0)
-parts c = let a = start c .args in group-parts (a .keys) (a .aggregate) (a .column) [] _ _ (a .stack) _ _ (c .live-table .ensures) (fitted c .0) (fitted c .1)
+    ApplyFits (a .column) (a .transform) (length (now (a .values))) (length (now (a .labels))) (a .stack) (c .live-table .result) (c .before .before .columns .given .0 .0)
+parts c = let a = start c .args in apply-parts (a .column) (a .transform) [] _ _ (a .stack) _ _ (c .live-table .ensures) (fitted c .0) (fitted c .1)
 
 -- what its labels refuse
 abbrev tested : tie.After-refusal → tie.After-live-table
@@ -48,8 +48,8 @@ returns : tie.Need-returns
 unfolding columnsExist madeColumns
 returns c =
     let a = c .before .before .before .before .args in
-    λ tables. unfit-done (Group (a .keys) (a .aggregate) (a .column)) tables _ _
-    (misfit-first (a .keys) (a .aggregate) (a .column) tables (work (now (a .values)) (now (a .labels))) (a .stack) (columns-misfit _ _ (sym (c .before .before .fit .ensures) ∙ c .enum-told .given .1)))
+    λ tables. unfit-done (Apply (a .column) (a .transform)) tables _ _
+    (misfit-first (a .column) (a .transform) tables (work (now (a .values)) (now (a .labels))) (a .stack) (columns-misfit _ _ (sym (c .before .before .fit .ensures) ∙ c .enum-told .given .1)))
 
 live-table-requires : tie.Need-live-table-requires
 live-table-requires c κs = search needs
@@ -70,29 +70,25 @@ returns-2 c =
     let r = refused .before in
     let l = tested r in
     let a = start l .args in
-    λ tables. refused-group (a .keys) (a .aggregate) (a .column) tables (work (now (a .values)) (now (a .labels))) (a .stack) (fitted l .0) (parts l)
+    λ tables. refused-apply (a .column) (a .transform) tables (work (now (a .values)) (now (a .labels))) (a .stack) (fitted l .0) (parts l)
     (r .refusal .result) (refused .match2 .keys2) (r .refusal .ensures)
-
-grouping-requires : tie.Need-grouping-requires
-grouping-requires c κs = search needs
 
 -- nothing is refused
 abbrev clear : tie.After-enum-told2 → tie.After-refusal
 clear c = c .before .before
 
-fine-is : (c : tie.After-enum-told2) → let l = tested (clear c) in let a = start l .args in says fine ≡ groupSays (now (a .labels)) (l .live-table .result) (a .keys) (a .column)
+fine-is : (c : tie.After-enum-told2) → let l = tested (clear c) in let a = start l .args in says fine ≡ applySays (now (a .labels)) (l .live-table .result) (a .column) (a .transform)
 fine-is c = sym (ap stepSays (c .enum-told2 .given .1)) ∙ clear c .refusal .ensures
 
-replace-requires : tie.Need-replace-requires
+make-table-requires : tie.Need-make-table-requires
 unfolding columnsExist madeColumns
-replace-requires c κs =
-    let g = c .before .before in
-    let t = g .before in
+make-table-requires c κs =
+    let t = c .before .before in
     let l = tested (clear t) in
     let a = start l .args in
-    let w = work (now (a .values)) (now (a .labels)) in
-    rw (g .grouping .ensures)
-    (source-is (a .keys) (a .aggregate) (a .column) [] w (a .stack) (fitted l .0) (parts l), allowed (a .keys) (a .aggregate) (a .column) [] w (a .stack) (fitted l .0) (parts l) (fine-is t))
+    let p = parts l in
+    let formed = operand-formed (a .column) (a .transform) [] (work (now (a .values)) (now (a .labels))) (a .stack) (fitted l .0) p (fine-is t) in
+    ((p .inside-is, p .narrow), (p .below, p .operand-below, formed .0, formed .1))
 
 with-table-requires : tie.Need-with-table-requires
 with-table-requires c κs = search needs
@@ -106,16 +102,15 @@ same-length-3 c = search needs
 returns-3 : tie.Need-returns-3
 unfolding columnsExist madeColumns
 returns-3 c =
-    let p = c .before .before .before .before in
-    let g = p .before .before .before in
-    let t = g .before in
+    let m = c .before .before .before .before in
+    let t = m .before .before .before in
     let l = tested (clear t) in
     let a = start l .args in
     λ tables. rw (c .with-table .ensures)
-    (made-group (a .keys) (a .aggregate) (a .column) tables (work (now (a .values)) (now (a .labels))) (a .stack) (fitted l .0) (parts l) (fine-is t) (rw (g .grouping .ensures) at (p .replace .ensures)))
+    (made-apply (a .column) (a .transform) tables (work (now (a .values)) (now (a .labels))) (a .stack) (fitted l .0) (parts l) (fine-is t) (m .make-table .ensures))
 
-pub group-spec : {M : Type 1} → statement M
-group-spec =
+pub apply-spec : {M : Type 1} → statement M
+apply-spec =
     tie.close
     (tie.spec
     fit-requires
@@ -127,8 +122,7 @@ group-spec =
     enum-told-2
     same-length
     returns-2
-    grouping-requires
-    replace-requires
+    make-table-requires
     with-table-requires
     same-length-2
     same-length-3

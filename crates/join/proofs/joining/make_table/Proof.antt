@@ -1,4 +1,4 @@
--- `join::step::make_table` meets its contract. Assumes nothing.
+-- `join::joining::make_table` meets its contract. Assumes nothing.
 use native.Mathlib.Omega.{arith}
 use denote.Ref.{now}
 use borrow.Author.Needs.{needs}
@@ -8,8 +8,8 @@ use Rattle.pairs.proofs.Fitting.{sides-fit}
 use Rattle.cells.proofs.CellLaws.{values-moved, labels-moved}
 use Rattle.join.proofs.Ending.{finished-over, rows-values, rows-labels, finished-made}
 use Rattle.memory.proofs.Stacks.{fits-slot}
-use Rattle.join.proofs.step.make_table.Statement.{statement}
-use Rattle.join.proofs.step.make_table.Tie as tie
+use Rattle.join.proofs.joining.make_table.Statement.{statement}
+use Rattle.join.proofs.joining.make_table.Tie as tie
 
 -- the rows that were made
 grown : (c : tie.After-join-rows) → let a = c .before .before .before .before .args in
