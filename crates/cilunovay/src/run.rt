@@ -16,7 +16,9 @@ pub extern "C" fn cilunovay_run(
     trace: &mut [u32],
     answer: &mut [u64],
 ) -> u32
-    ensures { λ r. ⌜ runCalled r (lent (now (values .exit)) (now (labels .exit)) (now (output .exit)) (now (trace .exit))) (now (answer .exit)) ≡ runCall (given (now (container .entry))) (lent (now (values .entry)) (now (labels .entry)) (now (output .entry)) (now (trace .entry))) (now (answer .entry)) ⌝ }
+    ensures { λ r. ⌜ runCalled r (lent (now (values .exit)) (now (labels .exit)) (now (output .exit)) (now (trace .exit))) (now (answer .exit))
+        ≡ runCall (given (now (container .entry)))
+        (lent (now (values .entry)) (now (labels .entry)) (now (output .entry)) (now (trace .entry))) (now (answer .entry)) ⌝ }
 {
     if answer.len() < 4 {
         return 1;

@@ -23,7 +23,9 @@ pub fn run(
     output: &mut [i64],
     trace: &mut [u32],
 ) -> RunAnswer
-    ensures { λ r. ⌜ ended (runSays r) (lent (now (values .exit)) (now (labels .exit)) (now (output .exit)) (now (trace .exit))) ≡ monitor (given (now (container .entry))) (lent (now (values .entry)) (now (labels .entry)) (now (output .entry)) (now (trace .entry))) ⌝ }
+    ensures { λ r. ⌜ ended (runSays r) (lent (now (values .exit)) (now (labels .exit)) (now (output .exit)) (now (trace .exit)))
+        ≡ monitor (given (now (container .entry)))
+        (lent (now (values .entry)) (now (labels .entry)) (now (output .entry)) (now (trace .entry))) ⌝ }
 {
     if output.len() < 2048 {
         return RunAnswer::TooShort;
@@ -53,9 +55,11 @@ fn released(
     rows: usize,
     columns: usize,
 ) -> RunAnswer
-    requires { ⌜ (rows ≤ 256) × (columns ≤ 8) × (room ≤ length (now values)) × (room ≤ length (now labels)) × (2048 ≤ length (now output)) ⌝ }
+    requires { ⌜ (rows ≤ 256) × (columns ≤ 8) × (room ≤ length (now values)) × (room ≤ length (now labels))
+        × (2048 ≤ length (now output)) ⌝ }
     ensures { λ r. ⌜ runSays r ≡ answerOf (finish steps (tableIn (work (now (values .entry)) (now (labels .entry))) 0 columns rows)) ⌝ }
-    ensures { λ _. ⌜ now (output .exit) ≡ written (rowsOut (finish steps (tableIn (work (now (values .entry)) (now (labels .entry))) 0 columns rows))) (now (output .entry)) ⌝ }
+    ensures { λ _. ⌜ now (output .exit)
+        ≡ written (rowsOut (finish steps (tableIn (work (now (values .entry)) (now (labels .entry))) 0 columns rows))) (now (output .entry)) ⌝ }
 {
     match release::release(values, labels, output, rows, columns) {
         ReleaseAnswer::Released => RunAnswer::Released(rows, columns),

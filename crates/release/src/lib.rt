@@ -21,8 +21,10 @@ pub fn release(
     rows: usize,
     columns: usize,
 ) -> ReleaseAnswer
-    ensures { λ r. ⌜ releaseSays r ≡ releaseReply (work (now (values .entry)) (now (labels .entry))) (now (output .entry)) rows columns ⌝ }
-    ensures { λ r. ⌜ now (output .exit) ≡ outputAfter (releaseSays r) (now (values .entry)) (now (output .entry)) rows columns ⌝ }
+    ensures { λ r. ⌜ releaseSays r
+        ≡ releaseReply (work (now (values .entry)) (now (labels .entry))) (now (output .entry)) rows columns ⌝ }
+    ensures { λ r. ⌜ now (output .exit)
+        ≡ outputAfter (releaseSays r) (now (values .entry)) (now (output .entry)) rows columns ⌝ }
 {
     match search::not_clear(labels, 0, rows, columns, 255) {
         Place::At(row, column) => {

@@ -14,7 +14,8 @@ ghost use Rattle.demands.specs.Lent.{Lent, enough};
 // Runs a container over slices of its own, prints what the monitor makes of it, and answers the number that a call of `cilunovay_run` with
 // slices of enough elements answers. What it prints is tested and not proved.
 pub fn report(container: &[u8]) -> u32
-    ensures { λ r. ⌜ ((lent : Lent) (answer : List ℕ) → enough lent ≡ true → 4 ≤ length answer → r ≡ runCall (given (now (container .entry))) lent answer .number) ⌝ }
+    ensures { λ r. ⌜ ((lent : Lent) (answer : List ℕ) → enough lent ≡ true → 4 ≤ length answer
+        → r ≡ runCall (given (now (container .entry))) lent answer .number) ⌝ }
 {
     let mut values = [0i64; 8192];
     let mut labels = [0u32; 8192];

@@ -15,7 +15,9 @@ use plan::Step;
 // Writes the line of step number `index`, whose table is on top of the stack.
 pub fn write_step(labels: &[u32], trace: &mut [u32], stack: Stack, index: usize, step: Step)
     requires { ⌜ (1 ≤ stack .depth) × (4 * index + 4 ≤ length (now trace)) × Ready room (length (now labels)) stack ⌝ }
-    ensures { λ _. ⌜ ((values : List ℤ) → room ≤ length values → now (trace .exit) ≡ withLine index (lineOf step (top (stackIn (work values (now (labels .entry))) stack))) (now (trace .entry))) ⌝ }
+    ensures { λ _. ⌜ ((values : List ℤ) → room ≤ length values
+        → now (trace .exit) ≡ withLine index (lineOf step (top (stackIn (work values (now (labels .entry))) stack)))
+        (now (trace .entry))) ⌝ }
 {
     let table = memory::live_table(stack, 0);
     let stages = tally::stages_left(labels, table.at, table.rows, table.columns);

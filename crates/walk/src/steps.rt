@@ -22,7 +22,8 @@ pub fn walk(
     labels: &mut [u32],
     trace: &mut [u32],
 ) -> WalkAnswer
-    ensures { λ r. ⌜ Walked (given (now (container .entry))) (work (now (values .entry)) (now (labels .entry))) (now (trace .entry)) r (work (now (values .exit)) (now (labels .exit))) (now (trace .exit)) ⌝ }
+    ensures { λ r. ⌜ Walked (given (now (container .entry))) (work (now (values .entry)) (now (labels .entry))) (now (trace .entry)) r
+        (work (now (values .exit)) (now (labels .exit))) (now (trace .exit)) ⌝ }
 {
     if !has_room(values.len(), labels.len(), trace.len()) {
         return WalkAnswer::TooShort;
@@ -47,8 +48,10 @@ fn take_steps(
     labels: &mut [u32],
     trace: &mut [u32],
 ) -> WalkAnswer
-    requires { ⌜ (checkGiven (given (now container)) ≡ accepted) × (walkRoom (length (now values)) (length (now labels)) (length (now trace)) ≡ true) ⌝ }
-    ensures { λ r. ⌜ Walked (given (now (container .entry))) (work (now (values .entry)) (now (labels .entry))) (now (trace .entry)) r (work (now (values .exit)) (now (labels .exit))) (now (trace .exit)) ⌝ }
+    requires { ⌜ (checkGiven (given (now container)) ≡ accepted)
+        × (walkRoom (length (now values)) (length (now labels)) (length (now trace)) ≡ true) ⌝ }
+    ensures { λ r. ⌜ Walked (given (now (container .entry))) (work (now (values .entry)) (now (labels .entry))) (now (trace .entry)) r
+        (work (now (values .exit)) (now (labels .exit))) (now (trace .exit)) ⌝ }
 {
     let count = plan_part::step_count(layout::part(container, 0));
     let mut stack = memory::no_tables();
@@ -76,7 +79,8 @@ fn take_steps(
 
 // The step at an index of an accepted container's plan.
 fn step_number(container: &[u8], index: usize) -> Step
-    ensures { λ r. ⌜ (checkGiven (given (now (container .entry))) ≡ accepted → index < length (planGiven (given (now (container .entry)))) → r ≡ stepNumber (given (now (container .entry))) index) ⌝ }
+    ensures { λ r. ⌜ (checkGiven (given (now (container .entry))) ≡ accepted → index < length (planGiven (given (now (container .entry))))
+        → r ≡ stepNumber (given (now (container .entry))) index) ⌝ }
 {
     match plan_part::step_at(layout::part(container, 0), index) {
         Found::Step(step) => step,
