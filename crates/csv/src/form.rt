@@ -1,0 +1,25 @@
+// What is fixed of the text: the header's names and the end of a line. The writer copies them from here and the reader compares with them.
+ghost use mathlib.Core.Path.{_≡_};
+ghost use Prim.Native.Nat.{_<_};
+ghost use lib.ListN.{getD};
+ghost use Rattle.csv.specs.Text.{names, lineEnd};
+
+const NAMES: [u8; 23] = *b"c0,c1,c2,c3,c4,c5,c6,c7";
+
+const LINE_END: [u8; 2] = *b"\r\n";
+
+// A byte of the names.
+pub fn name_byte(i: usize) -> u8
+    requires { ⌜ i < 23 ⌝ }
+    ensures { λ r. ⌜ r ≡ getD names i 0 ⌝ }
+{
+    NAMES[i]
+}
+
+// A byte of the line's end.
+pub fn end_byte(i: usize) -> u8
+    requires { ⌜ i < 2 ⌝ }
+    ensures { λ r. ⌜ r ≡ getD lineEnd i 0 ⌝ }
+{
+    LINE_END[i]
+}
