@@ -26,6 +26,9 @@
 #define CILUNOVAY_ANSWER 4
 #define CILUNOVAY_CHECK_ANSWER 2
 
+/* The longest text of a release, in bytes: lend so many and 51 never occurs. */
+#define CILUNOVAY_TEXT 35097
+
 /* The longest container, in bytes. A longer slice is refused with 11. */
 #define CILUNOVAY_CONTAINER 65536
 
@@ -33,7 +36,7 @@
  * says what causes each and what to do. */
 #define CILUNOVAY_RELEASED 0 /* cilunovay_check: accepted */
 
-/* A lent slice is too short. */
+/* A lent slice is too short, other than that of the text. */
 #define CILUNOVAY_TOO_SHORT 1
 
 /* Refused because of the input; the place is a byte offset in the container. */
@@ -55,6 +58,9 @@
 #define CILUNOVAY_STAGE_LEFT 35        /* a cell of the last table has a stage left */
 #define CILUNOVAY_OVER 36              /* a cell of the last table is OVER */
 
+/* Refused because of the text; the place is the number of steps, 0 and 0. */
+#define CILUNOVAY_NO_ROOM 51 /* the slice lent for the text is shorter than the text */
+
 #ifdef __cplusplus
 extern "C" {
 #endif
@@ -63,40 +69,57 @@ extern "C" {
  * trace, or refuses and says where. Writes four numbers to the start of answer
  * and returns the first:
  *
- *   0, rows, columns, 0         released: output begins with the table's values,
- *                               row by row
+ *   0, rows, columns, length    released: output begins with the table's values,
+ *                               row by row, and text with the table's text, of so
+ *                               many bytes
  *   1, 0, 0, 0                  values, labels, output or trace is too short; this
  *                               is tested before the container is read
  *   11 to 19, offset, 0, 0      refused because of the input
  *   31 to 36, step, row, column refused because of the state
+ *   51, steps, 0, 0             refused because text is shorter than the table's
+ *                               text; this is tested last, where the table would
+ *                               be released otherwise; steps are those of the plan
  *
- * After 1 and after 11 to 19 nothing else has changed. After a release and after
- * 31 to 36, trace begins with four numbers for each finished step (kind, rows,
- * columns, stages left; after a release, 35 and 36 every step is finished, and
+ * The text is the table as comma-separated values (RFC 4180), in ASCII. The first
+ * line has a name for each column of the released table: c0,c1 and so on. Then each
+ * row has a line: its values in decimal, with a minus sign where one is below zero
+ * and without leading zeros, zero being 0, and commas between them. Nothing is
+ * quoted, and every line ends in CR LF, the last one too. A table of no rows has the
+ * line of names alone. No zero byte ends the text: its length is answer[3].
+ *
+ * After 1 and after 11 to 19 nothing else has changed. After a release, 31 to 36 and
+ * 51, trace begins with four numbers for each finished step (kind, rows, columns,
+ * stages left; after a release, 35, 36 and 51 every step is finished, and
  * cilunovay_finished below says how many there are), and the first CILUNOVAY_WORK
- * elements of values and of labels are zero. A refusal leaves output as it was.
- * Everything else lent is as it was.
+ * elements of values and of labels are zero. A refusal leaves output and text as
+ * they were. Everything else lent is as it was, what lies past the text in its slice
+ * included.
+ *
+ * 1 does not test text: it may have any length, 0 included. As many elements as the
+ * text has bytes are enough.
  *
  * Where answer has fewer than CILUNOVAY_ANSWER elements, nothing lent changes at
  * all, the answer included, and 1 is returned: a lent slice is too short.
  *
- * What values, labels, output and trace hold before the call plays no part in
- * the answer, the rows and the trace lines.
+ * What values, labels, output, trace and text hold before the call plays no part in
+ * the answer, the rows, the text and the trace lines.
  */
 uint32_t cilunovay_run(const uint8_t *container, size_t container_length,
                        int64_t *values, size_t values_length,
                        uint32_t *labels, size_t labels_length,
                        int64_t *output, size_t output_length,
                        uint32_t *trace, size_t trace_length,
+                       uint8_t *text, size_t text_length,
                        uint64_t *answer, size_t answer_length);
 
 /* How many steps a call of cilunovay_run has finished, and so how many lines trace
  * begins with: what lies past them is as it was before the call, lines of an
  * earlier call included, and the trace alone does not tell them apart. Takes the
  * container and the answer of that call, of at least CILUNOVAY_ANSWER elements.
- * After 31 to 36 it is the step of the answer; after a release every step of the
- * plan, whose length in bytes, at most 1,024, the container has at its bytes 6 and
- * 7; after 1 and 11 to 19 it is 0. This function is tested and not proved.
+ * After 31 to 36 and after 51 it is the step of the answer; after a release every
+ * step of the plan, whose length in bytes, at most 1,024, the container has at its
+ * bytes 6 and 7; after 1 and 11 to 19 it is 0. This function is tested and not
+ * proved.
  */
 static inline size_t cilunovay_finished(const uint8_t *container, const uint64_t *answer)
 {

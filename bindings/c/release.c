@@ -3,12 +3,21 @@
  *     gcc -O2 -I include -o release bindings/c/release.c target/staticlib/libcilunovay.a
  *     release < CONTAINER
  *     release FILE..
+ *     release --csv < CONTAINER > tally.csv
+ *     release --csv FILE > tally.csv
  *
  * Prints a line for each finished step, then the released rows or the refusal.
  * Given files, it prints the name of each before its lines.
  *
+ * With --csv, which stands before the file, it prints the released table as
+ * comma-separated text and nothing else. Of a refusal it prints nothing, and the line
+ * of the refusal goes to standard error.
+ *
+ * A word that begins with -- is no file; ./--name is one.
+ *
  * Exit status: 0 every container is released; 1 one is refused; 2 something could
- * not be read or written, and then nothing that was printed is to be used.
+ * not be read or written, or the words are wrong, and then nothing that was printed
+ * is to be used.
  */
 #include <cilunovay.h>
 
@@ -27,11 +36,20 @@ static int64_t values[CILUNOVAY_WORK];
 static uint32_t labels[CILUNOVAY_WORK];
 static int64_t output[CILUNOVAY_OUTPUT];
 static uint32_t trace[CILUNOVAY_TRACE];
+static uint8_t text[CILUNOVAY_TEXT]; /* room for every text: 51 never occurs */
+static uint64_t answer[CILUNOVAY_ANSWER];
 
 /* Ends the program where something could not be read or written. */
 static void fail(const char *name)
 {
     fprintf(stderr, "release: %s: %s\n", name, strerror(errno));
+    exit(BROKEN);
+}
+
+/* Ends the program where the words are wrong. */
+static void misused(void)
+{
+    fprintf(stderr, "usage: release [FILE..], or release --csv [FILE]\n");
     exit(BROKEN);
 }
 
@@ -53,27 +71,45 @@ static void print_rows(uint64_t rows, uint64_t columns)
     }
 }
 
-static void print_refusal(uint32_t number, const uint64_t *place)
+static void print_refusal(FILE *file, uint32_t number, const uint64_t *place)
 {
     if (number >= CILUNOVAY_BAD_CONTAINER && number <= CILUNOVAY_BAD_COLUMNS)
-        printf("X %" PRIu32 " %" PRIu64 "\n", number, place[0]);
+        fprintf(file, "X %" PRIu32 " %" PRIu64 "\n", number, place[0]);
     else
-        printf("X %" PRIu32 " %" PRIu64 " %" PRIu64 " %" PRIu64 "\n", number, place[0], place[1], place[2]);
+        fprintf(file, "X %" PRIu32 " %" PRIu64 " %" PRIu64 " %" PRIu64 "\n", number, place[0], place[1], place[2]);
+}
+
+/* Runs the container that was read; the answer begins with the number. */
+static uint32_t run(size_t length)
+{
+    return cilunovay_run(container, length, values, CILUNOVAY_WORK, labels, CILUNOVAY_WORK, output, CILUNOVAY_OUTPUT,
+                         trace, CILUNOVAY_TRACE, text, CILUNOVAY_TEXT, answer, CILUNOVAY_ANSWER);
 }
 
 /* Runs the container that was read, and prints what the monitor answers. */
 static int print_run(size_t length)
 {
-    uint64_t answer[CILUNOVAY_ANSWER];
-    uint32_t number = cilunovay_run(container, length, values, CILUNOVAY_WORK, labels, CILUNOVAY_WORK, output,
-                                    CILUNOVAY_OUTPUT, trace, CILUNOVAY_TRACE, answer, CILUNOVAY_ANSWER);
+    uint32_t number = run(length);
 
     print_steps(cilunovay_finished(container, answer));
     if (number == CILUNOVAY_RELEASED) {
         print_rows(answer[1], answer[2]);
         return RELEASED;
     }
-    print_refusal(number, answer + 1);
+    print_refusal(stdout, number, answer + 1);
+    return REFUSED;
+}
+
+/* Runs the container that was read, and prints the text of its release alone. */
+static int print_text(size_t length)
+{
+    uint32_t number = run(length);
+
+    if (number == CILUNOVAY_RELEASED) {
+        fwrite(text, 1, answer[3], stdout);
+        return RELEASED;
+    }
+    print_refusal(stderr, number, answer + 1);
     return REFUSED;
 }
 
@@ -86,7 +122,7 @@ static size_t read_whole(FILE *file, const char *name)
     return length;
 }
 
-static int run_file(const char *name)
+static size_t read_file(const char *name)
 {
     FILE *file = fopen(name, "rb");
 
@@ -94,21 +130,32 @@ static int run_file(const char *name)
         fail(name);
     size_t length = read_whole(file, name);
     fclose(file);
-    printf("%s\n", name);
-    return print_run(length);
+    return length;
 }
 
 int main(int count, char **words)
 {
+    int csv = count > 1 && strcmp(words[1], "--csv") == 0;
+    int (*print)(size_t) = csv ? print_text : print_run;
     int status = RELEASED;
 
     /* A reader that has gone away is an output that cannot be written. */
     signal(SIGPIPE, SIG_IGN);
-    if (count < 2)
-        status = print_run(read_whole(stdin, "standard input"));
-    for (int i = 1; i < count; i++)
-        if (run_file(words[i]) == REFUSED)
+    for (int i = 1 + csv; i < count; i++)
+        if (strncmp(words[i], "--", 2) == 0)
+            misused();
+    if (csv && count > 3)
+        misused();
+    if (count < 2 + csv)
+        status = print(read_whole(stdin, "standard input"));
+    for (int i = 1 + csv; i < count; i++) {
+        size_t length = read_file(words[i]);
+
+        if (!csv)
+            printf("%s\n", words[i]);
+        if (print(length) == REFUSED)
             status = REFUSED;
+    }
     if (ferror(stdout) || fclose(stdout) != 0)
         fail("standard output");
     return status;

@@ -24,6 +24,9 @@ use std::fmt;
 /// The longest container, in bytes. A longer one is refused.
 pub const LONGEST_CONTAINER: usize = 65_536;
 
+/// The longest text of a release, in bytes: 256 rows of 8 values of -2^47.
+pub const LONGEST_TEXT: usize = 35_097;
+
 const WORK: usize = 8_192;
 const OUTPUT: usize = 2_048;
 const TRACE: usize = 256;
@@ -42,6 +45,8 @@ unsafe extern "C" {
         output_length: usize,
         trace: *mut u32,
         trace_length: usize,
+        text: *mut u8,
+        text_length: usize,
         answer: *mut u64,
         answer_length: usize,
     ) -> u32;
@@ -96,7 +101,7 @@ pub struct Line {
     pub stages_left: u32,
 }
 
-/// A released table, and a line for each step of the plan.
+/// A released table, its text, and a line for each step of the plan.
 #[derive(Clone, PartialEq, Eq, Debug)]
 pub struct Release {
     pub rows: usize,
@@ -104,6 +109,10 @@ pub struct Release {
     pub columns: usize,
     /// Row by row, `rows` times `columns` of them.
     pub values: Vec<i64>,
+    /// The table as comma-separated values (RFC 4180), in ASCII: a line of names,
+    /// `c0,c1` and so on, then a line for each row. Nothing is quoted, and every
+    /// line ends in CR LF.
+    pub text: String,
     pub trace: Vec<Line>,
 }
 
@@ -323,6 +332,7 @@ pub struct Monitor {
     labels: Vec<u32>,
     output: Vec<i64>,
     trace: Vec<u32>,
+    text: Vec<u8>,
 }
 
 impl Default for Monitor {
@@ -338,10 +348,12 @@ impl Monitor {
             labels: vec![0; WORK],
             output: vec![0; OUTPUT],
             trace: vec![0; TRACE],
+            text: vec![0; LONGEST_TEXT],
         }
     }
 
-    /// Evaluates a container's plan, and releases a table or refuses.
+    /// Evaluates a container's plan, and releases a table or refuses. Each lent slice
+    /// has room enough, the text's too, so refusals 1 and 51 do not occur.
     pub fn run(&mut self, container: &[u8]) -> Result<Release, Refusal> {
         let mut answer = [0u64; 4];
         // Each pointer comes from a slice of the length given with it, and no two
@@ -358,6 +370,8 @@ impl Monitor {
                 self.output.len(),
                 self.trace.as_mut_ptr(),
                 self.trace.len(),
+                self.text.as_mut_ptr(),
+                self.text.len(),
                 answer.as_mut_ptr(),
                 answer.len(),
             )
@@ -366,8 +380,9 @@ impl Monitor {
         match number {
             0 => {
                 let values = self.output[..first * second].to_vec();
+                let text = self.characters(third);
                 let trace = self.lines(plan_steps(container));
-                Ok(Release { rows: first, columns: second, values, trace })
+                Ok(Release { rows: first, columns: second, values, text, trace })
             }
             11..=19 => {
                 let fault = InputFault::from_number(number);
@@ -381,6 +396,12 @@ impl Monitor {
                 trace: self.lines(first),
             })),
         }
+    }
+
+    /// The text of a release, ASCII: each byte is a character. What lies past it is of
+    /// an earlier run.
+    fn characters(&self, length: usize) -> String {
+        self.text.iter().take(length).copied().map(char::from).collect()
     }
 
     /// The lines of the finished steps. What lies past them is of an earlier run.

@@ -1,7 +1,8 @@
-//! What is measured: one plan for each kind of step, and a mixed one, each with
-//! the same query in SQL.
+//! What is measured: one plan for each kind of step, a mixed one, and releases
+//! of small and of the widest values as text, each with the same query in SQL.
 
 use crate::draft::{step, Draft, RawStep, RawTable};
+use crate::reference::value::LOWEST;
 
 pub struct Case {
     pub name: &'static str,
@@ -107,6 +108,24 @@ pub static CASES: [Case; 9] = [
     },
 ];
 
+/// A table of 8 columns as it is; SQLite makes its text as well.
+pub static TEXTS: [Case; 2] = [
+    Case {
+        name: "text, small",
+        make: |rows| {
+            let digits = filled(rows, |cell| cell % 10);
+            (draft(vec![digits], &[scan(0)]), "SELECT * FROM t0")
+        },
+    },
+    Case {
+        name: "text, widest",
+        make: |rows| {
+            let lowest = filled(rows, |_| LOWEST);
+            (draft(vec![lowest], &[scan(0)]), "SELECT * FROM t0")
+        },
+    },
+];
+
 fn scan(table: u8) -> RawStep {
     step(1, table, 0, 0, 0, 0)
 }
@@ -132,4 +151,9 @@ fn table(columns: usize, rows: usize, number: i64, label: u32) -> RawTable {
         }
     }
     RawTable { columns, cells }
+}
+
+/// 8 columns of values by the number of the cell.
+fn filled(rows: usize, value: fn(i64) -> i64) -> RawTable {
+    RawTable { columns: 8, cells: (0..8 * rows as i64).map(|cell| (value(cell), 0)).collect() }
 }

@@ -1,5 +1,6 @@
 //! The time of the product beside that of the reference implementation and of
-//! SQLite, for each kind of step and for a mixed plan, at three sizes.
+//! SQLite, for each kind of step, for a mixed plan, and for the text of small
+//! and of the widest values, at three sizes.
 //!
 //!     rustc -O --edition 2021 -o bench tests/bench/main.rs \
 //!         -L native=DIRECTORY -l static=LIBRARY          (and libsqlite3-dev)
@@ -7,11 +8,16 @@
 //!     bench once ENGINE CASE ROWS COUNT
 //!     bench list
 //!
-//! Product and reference read the container, evaluate the plan and release.
+//! Product and reference read the container, evaluate the plan and release rows
+//! and text: a release has its text in every case, and there is no run without.
 //! SQLite runs a prepared statement with the relational part of the plan over
 //! tables already in memory, without labels, and every value of the result is
-//! read. Times are the best of all runs. The results of the three are compared,
-//! as sets of rows, before anything is measured.
+//! read. It makes a text only in the cases of text, where each value is read as
+//! text as well: there all three do the same work, and in the other rows SQLite
+//! has rows to make where product and reference have rows and text. The means
+//! of the two sorts of rows are printed apart. Times are the best of all runs.
+//! Before anything is measured the results of the three are compared, rows as
+//! sets and texts byte by byte.
 //!
 //! `once` runs one engine (product, reference or sqlite) COUNT times on one
 //! case and prints nothing, so that callgrind can count its instructions:
@@ -43,8 +49,9 @@ mod rng;
 mod cases;
 mod sqlite;
 
-use cases::{Case, CASES, SIZES};
+use cases::{Case, CASES, SIZES, TEXTS};
 use lent::{Lent, NEEDED};
+use reference::release::TEXT_LENGTH;
 use sqlite::Query;
 use std::time::{Duration, Instant};
 
@@ -71,8 +78,14 @@ fn parse(text: &str) -> usize {
     text.parse().unwrap_or_else(|_| usage())
 }
 
+/// All cases; with each, whether SQLite makes the text.
+fn cases() -> impl Iterator<Item = (&'static Case, bool)> {
+    let steps = CASES.iter().map(|case| (case, false));
+    steps.chain(TEXTS.iter().map(|case| (case, true)))
+}
+
 /// Reads an answer, so that no compiler leaves out the run that gave it.
-fn keep(answer: [u32; 3]) {
+fn keep(answer: [u32; 4]) {
     unsafe { std::ptr::read_volatile(&answer) };
 }
 
@@ -82,47 +95,59 @@ struct Bench {
     lent: Lent,
     query: Query,
     rows: Vec<i64>,
+    /// SQLite's, where it makes one.
+    text: Option<Vec<u8>>,
 }
 
+/// The rows that an engine gives, sorted, and its text.
+type Given = (Vec<Vec<i64>>, Option<Vec<u8>>);
+
 impl Bench {
-    fn new(case: &Case, size: usize) -> Bench {
+    fn new((case, text): (&Case, bool), size: usize) -> Bench {
         let (draft, sql) = (case.make)(size);
         let mut lent = Lent::default();
-        lent.fill(NEEDED, 1);
+        lent.fill(NEEDED, TEXT_LENGTH, 1);
         let query = Query::new(&draft.tables, sql);
-        Bench { container: draft.bytes(), lent, query, rows: vec![0; NEEDED[2]] }
+        let text = text.then(Vec::new);
+        Bench { container: draft.bytes(), lent, query, rows: vec![0; NEEDED[2]], text }
     }
 
-    /// Answers the number, rows and columns.
-    fn run(&mut self, engine: usize) -> [u32; 3] {
-        let answer = match engine {
+    /// Answers the number, rows, columns and the text's length.
+    fn run(&mut self, engine: usize) -> [u32; 4] {
+        match engine {
             0 => {
                 let mut answer = [0; product::RUN_ANSWER];
                 product::call_run(&self.container, &mut self.lent, &mut answer);
                 answer.map(|number| number as u32)
             }
             1 => {
-                let (values, labels, output, trace) = self.lent.slices();
-                reference::run(&self.container, values, labels, output, trace).numbers()
+                let (values, labels, output, trace, text) = self.lent.slices();
+                reference::run(&self.container, values, labels, output, trace, text).numbers()
             }
             _ => {
-                let (rows, columns) = self.query.run(&mut self.rows);
-                [0, rows as u32, columns as u32, 0]
+                let (rows, columns) = self.query.run(&mut self.rows, self.text.as_mut());
+                let length = self.text.as_ref().map_or(0, Vec::len);
+                [0, rows as u32, columns as u32, length as u32]
             }
-        };
-        [answer[0], answer[1], answer[2]]
+        }
     }
 
-    /// The rows that an engine gives, sorted.
-    fn result(&mut self, engine: usize) -> Vec<Vec<i64>> {
-        let [number, rows, columns] = self.run(engine);
-        assert_eq!(number, 0, "every plan here is released");
-        let (_, _, output, _) = self.lent.slices();
-        let from = if engine == 2 { &self.rows[..] } else { output };
-        let cells = from.chunks(columns as usize).take(rows as usize);
-        let mut sorted: Vec<Vec<i64>> = cells.map(|row| row.to_vec()).collect();
-        sorted.sort();
-        sorted
+    fn result(&mut self, engine: usize) -> Given {
+        // Nothing of an earlier engine's result is to be taken for this one's.
+        self.lent.fill(NEEDED, TEXT_LENGTH, engine as u64);
+        let answer = self.run(engine);
+        assert_eq!(answer[0], 0, "every plan here is released");
+        let columns = answer[2] as usize;
+        let (cells, text) = match engine {
+            2 => (&self.rows[..answer[1] as usize * columns], self.text.clone()),
+            _ => {
+                let (cells, text) = self.lent.released(answer);
+                (cells, Some(text.to_vec()))
+            }
+        };
+        let mut rows: Vec<Vec<i64>> = cells.chunks(columns).map(|row| row.to_vec()).collect();
+        rows.sort();
+        (rows, text)
     }
 
     /// The best time of each engine, in microseconds. They take turns, so that
@@ -144,7 +169,7 @@ impl Bench {
 }
 
 fn once(engine: &str, case: &str, size: usize, count: usize) {
-    let found = CASES.iter().find(|known| known.name == case);
+    let found = cases().find(|(known, _)| known.name == case);
     let number = ENGINES.iter().position(|known| *known == engine);
     let (case, engine) = match (found, number) {
         (Some(case), Some(engine)) => (case, engine),
@@ -157,7 +182,7 @@ fn once(engine: &str, case: &str, size: usize, count: usize) {
 }
 
 fn list() {
-    for case in &CASES {
+    for (case, _) in cases() {
         for size in SIZES {
             println!("{size} {}", case.name);
         }
@@ -171,15 +196,16 @@ fn table(milliseconds: usize) {
         "{:<16}{:>5}{:>8}{:>10}{:>11}{:>10}{:>12}{:>10}",
         "plan", "rows", "bytes", "product", "reference", "sqlite", "/reference", "/sqlite"
     );
-    let mut ratios: [Vec<f64>; 2] = Default::default();
+    let mut ratios: [[Vec<f64>; 2]; 2] = Default::default();
     let mut growth = Vec::new();
-    for case in &CASES {
+    for (case, text) in cases() {
         let mut times = Vec::new();
         for size in SIZES {
-            let mut bench = Bench::new(case, size);
-            let results = [0, 1, 2].map(|engine| bench.result(engine));
-            assert!(results[0] == results[1], "{}: product and reference differ", case.name);
-            assert!(results[1] == results[2], "{}: reference and SQLite differ", case.name);
+            let mut bench = Bench::new((case, text), size);
+            let [product, reference, sqlite] = [0, 1, 2].map(|engine| bench.result(engine));
+            assert!(product == reference, "{}: product and reference differ", case.name);
+            assert!(reference.0 == sqlite.0, "{}: reference and SQLite differ", case.name);
+            assert!(!text || reference.1 == sqlite.1, "{}: SQLite's text differs", case.name);
             let best = bench.best(time);
             let ratio = [best[0] / best[1], best[0] / best[2]];
             println!(
@@ -193,17 +219,21 @@ fn table(milliseconds: usize) {
                 ratio[0],
                 ratio[1]
             );
-            ratios[0].push(ratio[0]);
-            ratios[1].push(ratio[1]);
+            ratios[text as usize][0].push(ratio[0]);
+            ratios[text as usize][1].push(ratio[1]);
             times.push(best);
         }
         growth.push((case.name, times));
     }
+    println!("product and reference write the text in every row; sqlite does so only in the rows of text");
     println!();
-    for (name, ratios) in ["reference", "sqlite"].iter().zip(&ratios) {
-        let mean = (ratios.iter().map(|ratio| ratio.ln()).sum::<f64>() / ratios.len() as f64).exp();
-        let worst = ratios.iter().fold(0.0, |worst: f64, &ratio| worst.max(ratio));
-        println!("product / {name}: geometric mean {mean:.3}, worst {worst:.3}");
+    for (rows, ratios) in ["", "text: "].iter().zip(&ratios) {
+        for (name, ratios) in ["reference", "sqlite"].iter().zip(ratios) {
+            let logarithms = ratios.iter().map(|ratio| ratio.ln()).sum::<f64>();
+            let mean = (logarithms / ratios.len() as f64).exp();
+            let worst = ratios.iter().fold(0.0, |worst: f64, &ratio| worst.max(ratio));
+            println!("{rows}product / {name}: geometric mean {mean:.3}, worst {worst:.3}");
+        }
     }
     println!();
     println!("growth: the power of the rows by which the time grows, for {SIZES:?} rows");

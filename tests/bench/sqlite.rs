@@ -2,7 +2,7 @@
 
 use crate::draft::RawTable;
 use std::ffi::{CStr, CString};
-use std::os::raw::{c_char, c_int, c_void};
+use std::os::raw::{c_char, c_int, c_uchar, c_void};
 use std::ptr;
 
 #[link(name = "sqlite3")]
@@ -26,7 +26,10 @@ extern "C" {
     fn sqlite3_reset(statement: *mut c_void) -> c_int;
     fn sqlite3_finalize(statement: *mut c_void) -> c_int;
     fn sqlite3_column_count(statement: *mut c_void) -> c_int;
+    fn sqlite3_column_name(statement: *mut c_void, column: c_int) -> *const c_char;
     fn sqlite3_column_int64(statement: *mut c_void, column: c_int) -> i64;
+    fn sqlite3_column_text(statement: *mut c_void, column: c_int) -> *const c_uchar;
+    fn sqlite3_column_bytes(statement: *mut c_void, column: c_int) -> c_int;
     fn sqlite3_errmsg(db: *mut c_void) -> *const c_char;
     fn sqlite3_close(db: *mut c_void) -> c_int;
 }
@@ -86,17 +89,42 @@ impl Query {
         }
     }
 
-    /// Runs the statement and reads every value; answers rows and columns.
-    pub fn run(&mut self, output: &mut [i64]) -> (usize, usize) {
+    /// Adds a line with this field for each column.
+    fn line<'a>(&self, text: &mut Vec<u8>, field: impl Fn(c_int) -> &'a [u8]) {
+        for column in 0..self.columns {
+            if column > 0 {
+                text.push(b',');
+            }
+            text.extend_from_slice(field(column));
+        }
+        text.extend_from_slice(b"\r\n");
+    }
+
+    /// Runs the statement and reads every value, and once more as text if one
+    /// is wanted, comma-separated; answers rows and columns.
+    pub fn run(&mut self, output: &mut [i64], mut text: Option<&mut Vec<u8>>) -> (usize, usize) {
         let columns = self.columns as usize;
         let mut rows = 0;
         unsafe {
+            if let Some(text) = &mut text {
+                text.clear();
+                self.line(text, |column| {
+                    CStr::from_ptr(sqlite3_column_name(self.statement, column)).to_bytes()
+                });
+            }
             loop {
                 match sqlite3_step(self.statement) {
                     ROW => {
                         for column in 0..columns {
                             output[rows * columns + column] =
                                 sqlite3_column_int64(self.statement, column as c_int);
+                        }
+                        if let Some(text) = &mut text {
+                            self.line(text, |column| {
+                                let start = sqlite3_column_text(self.statement, column);
+                                let length = sqlite3_column_bytes(self.statement, column);
+                                std::slice::from_raw_parts(start, length as usize)
+                            });
                         }
                         rows += 1;
                     }

@@ -1,50 +1,178 @@
-// The header in C++: both functions on a container without bytes, and the number of finished steps over slices that were used before.
+// The header in C++: both functions on a container without bytes, the number of finished steps over slices that were used before, and the
+// text of a release in slices of several lengths. Takes place in the folder of the trials' containers, whose names stand in ../args.
 #include <cilunovay.h>
 
+#include <algorithm>
 #include <cstdint>
 #include <cstdio>
+#include <fstream>
+#include <string>
 #include <vector>
 
+// What output and text hold before a run.
+enum { PATTERN = 0xA5 };
+
+static std::vector<std::uint8_t> container(CILUNOVAY_CONTAINER + 1), text(CILUNOVAY_TEXT + 9);
+static std::size_t length;
 static std::vector<std::int64_t> values(CILUNOVAY_WORK), output(CILUNOVAY_OUTPUT);
 static std::vector<std::uint32_t> labels(CILUNOVAY_WORK), trace(CILUNOVAY_TRACE, 9);
 static std::uint64_t answer[CILUNOVAY_ANSWER] = {9, 9, 9, 9};
 
+// Runs the container, with so many bytes for its text.
+static std::uint32_t run(std::size_t room)
+{
+    std::fill(output.begin(), output.end(), PATTERN);
+    std::fill(text.begin(), text.end(), PATTERN);
+    return cilunovay_run(container.data(), length, values.data(), values.size(), labels.data(), labels.size(), output.data(), output.size(),
+                         trace.data(), trace.size(), text.data(), room, answer, CILUNOVAY_ANSWER);
+}
+
+static bool read(const std::string &name)
+{
+    std::FILE *file = std::fopen(name.c_str(), "rb");
+
+    if (file == nullptr)
+        return false;
+    length = std::fread(container.data(), 1, container.size(), file);
+    std::fclose(file);
+    return true;
+}
+
 static bool too_short()
 {
-    std::vector<std::uint8_t> container(1);
-
+    length = 0;
     if (cilunovay_check(container.data(), 0, answer, CILUNOVAY_CHECK_ANSWER) != CILUNOVAY_BAD_CONTAINER
         || answer[0] != CILUNOVAY_BAD_CONTAINER || answer[1] != 0 || answer[2] != 9)
         return false;
-    return cilunovay_run(container.data(), 0, values.data(), values.size(), labels.data(), labels.size() - 1, output.data(),
-                         output.size(), trace.data(), trace.size(), answer, CILUNOVAY_ANSWER)
-               == CILUNOVAY_TOO_SHORT
-           && answer[0] == CILUNOVAY_TOO_SHORT && answer[2] == 0 && cilunovay_finished(container.data(), answer) == 0;
+    labels.pop_back();
+    bool refused = run(0) == CILUNOVAY_TOO_SHORT && answer[0] == CILUNOVAY_TOO_SHORT && answer[2] == 0
+                   && cilunovay_finished(container.data(), answer) == 0;
+    labels.push_back(0);
+    return refused;
 }
 
 // The file of a trial, whose run answers this number after so many finished steps; the trace holds the lines of earlier calls.
 static bool finishes(const char *name, std::uint32_t number, std::size_t steps)
 {
-    std::vector<std::uint8_t> container(CILUNOVAY_CONTAINER + 1);
-    std::FILE *file = std::fopen(name, "rb");
+    return read(name) && run(CILUNOVAY_TEXT) == number && cilunovay_finished(container.data(), answer) == steps;
+}
 
-    if (file == nullptr)
-        return false;
-    std::size_t length = std::fread(container.data(), 1, container.size(), file);
-    std::fclose(file);
-    return cilunovay_run(container.data(), length, values.data(), values.size(), labels.data(), labels.size(), output.data(),
-                         output.size(), trace.data(), trace.size(), answer, CILUNOVAY_ANSWER)
-               == number
+// The text of the rows in output.
+static std::string text_of_rows(std::uint64_t rows, std::uint64_t columns)
+{
+    std::string whole;
+
+    for (std::uint64_t column = 0; column < columns; column++)
+        whole += (column ? ",c" : "c") + std::to_string(column);
+    for (std::uint64_t at = 0; at < rows * columns; at++)
+        whole += (at % columns ? "," : "\r\n") + std::to_string(output[at]);
+    return whole + "\r\n";
+}
+
+// The slice begins with this, and holds behind it what it held before.
+static bool holds(const std::string &whole)
+{
+    return std::equal(whole.begin(), whole.end(), text.begin())
+           && std::all_of(text.begin() + whole.size(), text.end(), [](std::uint8_t byte) { return byte == PATTERN; });
+}
+
+static bool answers(std::uint64_t first, std::uint64_t second, std::uint64_t third, std::uint64_t fourth)
+{
+    return answer[0] == first && answer[1] == second && answer[2] == third && answer[3] == fourth;
+}
+
+template <class Element> static bool all(const std::vector<Element> &slice, Element value)
+{
+    return std::all_of(slice.begin(), slice.end(), [value](Element one) { return one == value; });
+}
+
+// Runs the container over slices that hold nothing of an earlier run.
+static std::uint32_t fresh_run(std::size_t room)
+{
+    std::fill(values.begin(), values.end(), 9);
+    std::fill(labels.begin(), labels.end(), 9);
+    std::fill(trace.begin(), trace.end(), 9);
+    return run(room);
+}
+
+// So many bytes are too few for a release's text: 51, with the trace of the release, zeros in work memory, and nothing else changed.
+static bool too_few(std::size_t room, std::size_t steps, const std::vector<std::uint32_t> &released_trace)
+{
+    return fresh_run(room) == CILUNOVAY_NO_ROOM && answers(CILUNOVAY_NO_ROOM, steps, 0, 0) && trace == released_trace
+           && all<std::int64_t>(values, 0) && all<std::uint32_t>(labels, 0) && all<std::int64_t>(output, PATTERN) && holds("")
            && cilunovay_finished(container.data(), answer) == steps;
 }
 
-// Takes place in the folder of the trials' containers.
+static bool released_text()
+{
+    const std::uint64_t rows = answer[1], columns = answer[2];
+    const std::string whole = text_of_rows(rows, columns);
+    const std::size_t size = whole.size(), steps = cilunovay_finished(container.data(), answer);
+    const std::vector<std::uint32_t> released_trace = trace;
+
+    for (std::size_t room : {std::size_t(CILUNOVAY_TEXT), size, size + 1, text.size()})
+        if (fresh_run(room) != CILUNOVAY_RELEASED || !answers(CILUNOVAY_RELEASED, rows, columns, size) || !holds(whole))
+            return false;
+    return too_few(size - 1, steps, released_trace) && too_few(1, steps, released_trace) && too_few(0, steps, released_trace);
+}
+
+// A refusal is the same with room for a text and without.
+static bool refused_text(std::uint32_t number)
+{
+    const std::uint64_t first = answer[1], second = answer[2], third = answer[3];
+
+    for (std::size_t room : {std::size_t(CILUNOVAY_TEXT), std::size_t(0)})
+        if (fresh_run(room) != number || !answers(number, first, second, third) || !all<std::int64_t>(output, PATTERN) || !holds(""))
+            return false;
+    return number != CILUNOVAY_NO_ROOM;
+}
+
+static bool texts()
+{
+    const std::uint32_t number = fresh_run(CILUNOVAY_TEXT);
+
+    return number == CILUNOVAY_RELEASED ? released_text() : refused_text(number);
+}
+
+static bool texts_of_the_trials()
+{
+    std::ifstream names("../args");
+    std::string name;
+    std::size_t count = 0;
+
+    for (; std::getline(names, name); count++)
+        if (!read(name) || !texts()) {
+            std::fprintf(stderr, "the text of %s\n", name.c_str());
+            return false;
+        }
+    return count > 0;
+}
+
+static void put(std::initializer_list<std::uint8_t> bytes)
+{
+    std::copy(bytes.begin(), bytes.end(), container.begin() + length);
+    length += bytes.size();
+}
+
+// SCAN of a table of 256 rows of 8 values of -2^47: the longest text.
+static bool longest_text()
+{
+    length = 0;
+    put({2, 0, 18, 0, 0, 0, 16, 0, 0, 0, 34, 0, 0, 0, 4, 0x60, 0, 0});
+    put({1, 0, 0, 0, 0, 0, 0, 0, 0, 0, 0, 0, 0, 0, 0, 0});
+    put({8, 0, 0, 1});
+    for (int cell = 0; cell < 256 * 8; cell++)
+        put({0, 0, 0, 0, 0, 0x80, 0xFF, 0xFF, 0, 0, 0, 0});
+    return texts() && run(CILUNOVAY_TEXT) == CILUNOVAY_RELEASED && answers(0, 256, 8, CILUNOVAY_TEXT)
+           && run(CILUNOVAY_TEXT - 1) == CILUNOVAY_NO_ROOM;
+}
+
 int main()
 {
     return too_short() && finishes("steps_64", CILUNOVAY_RELEASED, 64) && finishes("printed_case", CILUNOVAY_RELEASED, 2)
                    && finishes("printed_case_minimum_3", CILUNOVAY_STAGE_LEFT, 2) && finishes("r31_filter_first_row", CILUNOVAY_NOT_CLEAR, 1)
                    && finishes("r34_union_of_257", CILUNOVAY_TOO_MANY, 2) && finishes("r36_add", CILUNOVAY_OVER, 2)
-                   && finishes("input_19", CILUNOVAY_BAD_COLUMNS, 0)
+                   && finishes("input_19", CILUNOVAY_BAD_COLUMNS, 0) && texts_of_the_trials() && longest_text()
                ? 0
                : 1;
 }

@@ -8,7 +8,7 @@
 #[path = "../../bindings/rust/cilunovay.rs"]
 mod cilunovay;
 
-use cilunovay::{check, InputFault, Kind, Line, Monitor, Refusal, Release, StateFault};
+use cilunovay::{check, InputFault, Kind, Line, Monitor, Refusal, Release, StateFault, LONGEST_TEXT};
 
 fn containers() -> Vec<(String, Vec<u8>)> {
     let folder = std::env::var("CONTAINERS").expect("CONTAINERS names a folder");
@@ -32,7 +32,8 @@ fn line(kind: Kind, rows: u32, columns: u32, stages_left: u32) -> Line {
 #[test]
 fn the_printed_case() {
     let trace = vec![line(Kind::Scan, 2, 2, 2), line(Kind::Group, 1, 2, 0)];
-    let release = Release { rows: 1, columns: 2, values: vec![7, 8], trace };
+    let text = "c0,c1\r\n7,8\r\n".to_string();
+    let release = Release { rows: 1, columns: 2, values: vec![7, 8], text, trace };
     assert_eq!(Monitor::new().run(&named("printed_case")), Ok(release));
 }
 
@@ -59,6 +60,45 @@ fn a_release_is_gone_through_row_by_row() {
     assert!(release.clone().into_iter().eq(release.iter()));
     let empty = Monitor::new().run(&named("release_no_rows")).unwrap();
     assert_eq!((&empty).into_iter().count(), 0);
+}
+
+/// A line of a text: words with commas between.
+fn text_line(words: impl Iterator<Item = String>) -> String {
+    words.collect::<Vec<_>>().join(",") + "\r\n"
+}
+
+#[test]
+fn a_text_has_the_rows_of_its_release() {
+    let mut released = 0;
+    for (name, container) in containers() {
+        if let Ok(release) = Monitor::new().run(&container) {
+            let mut text = text_line((0..release.columns).map(|column| format!("c{column}")));
+            for row in &release {
+                text += &text_line(row.iter().map(i64::to_string));
+            }
+            assert_eq!(release.text, text, "{name}");
+            released += 1;
+        }
+    }
+    assert!(released > 0);
+}
+
+#[test]
+fn a_text_of_no_rows_is_its_first_line() {
+    assert_eq!(Monitor::new().run(&named("release_no_rows")).unwrap().text, "c0,c1,c2\r\n");
+}
+
+#[test]
+fn the_longest_text_has_room() {
+    let mut container = vec![2, 0, 18, 0, 0, 0, 16, 0, 0, 0, 34, 0, 0, 0, 4, 0x60, 0, 0];
+    container.extend([1, 0, 0, 0, 0, 0, 0, 0, 0, 0, 0, 0, 0, 0, 0, 0]);
+    container.extend([8, 0, 0, 1]);
+    for _ in 0..256 * 8 {
+        container.extend((-(1i64 << 47)).to_le_bytes());
+        container.extend([0; 4]);
+    }
+    let release = Monitor::new().run(&container).unwrap();
+    assert_eq!((release.rows, release.columns, release.text.len()), (256, 8, LONGEST_TEXT));
 }
 
 #[test]

@@ -3,19 +3,25 @@
 
 use crate::rng::{mix, Rng};
 
-/// What a run needs of work values, work labels, output and trace.
+/// What a run needs of work values, work labels, output and trace, lest it
+/// refuse with 1; of the text's slice it needs nothing.
 pub const NEEDED: [usize; 4] = [8_192, 8_192, 2_048, 256];
-pub const NAMES: [&str; 4] = ["work values", "work labels", "output", "trace"];
+pub const NAMES: [&str; 5] = ["work values", "work labels", "output", "trace", "text"];
 const MARGIN: usize = 16;
 
 #[derive(Clone, Default)]
 pub struct Lent {
     lengths: [usize; 4],
+    room: usize,
     values: Vec<i64>,
     labels: Vec<u32>,
     output: Vec<i64>,
     trace: Vec<u32>,
+    text: Vec<u8>,
 }
+
+/// The slices themselves, in the order of `NAMES`.
+pub type Slices<'a> = (&'a mut [i64], &'a mut [u32], &'a mut [i64], &'a mut [u32], &'a mut [u8]);
 
 /// Longer than needed as a rule, sometimes of just the length needed.
 pub fn long_enough(rng: &mut Rng) -> [usize; 4] {
@@ -23,9 +29,12 @@ pub fn long_enough(rng: &mut Rng) -> [usize; 4] {
 }
 
 impl Lent {
-    /// Fills every slice anew, margins included; the pattern has no zeros.
-    pub fn fill(&mut self, lengths: [usize; 4], seed: u64) {
+    /// Fills every slice anew, margins included; `room` is the length of the
+    /// text's slice. The pattern has no zeros, and in the text's slice no byte
+    /// that a text can have.
+    pub fn fill(&mut self, lengths: [usize; 4], room: usize, seed: u64) {
         self.lengths = lengths;
+        self.room = room;
         let start = mix(seed);
         let numbers = |count: usize, salt: u64| {
             let mut state = start ^ salt;
@@ -40,24 +49,34 @@ impl Lent {
         refill(&mut self.labels, numbers(lengths[1], 2).map(|n| (n >> 32) as u32));
         refill(&mut self.output, numbers(lengths[2], 3).map(|n| n as i64));
         refill(&mut self.trace, numbers(lengths[3], 4).map(|n| (n >> 32) as u32));
+        refill(&mut self.text, numbers(room, 5).map(|n| (n >> 56) as u8 | 0x80));
     }
 
     pub fn copy_from(&mut self, other: &Lent) {
         self.lengths = other.lengths;
+        self.room = other.room;
         self.values.clone_from(&other.values);
         self.labels.clone_from(&other.labels);
         self.output.clone_from(&other.output);
         self.trace.clone_from(&other.trace);
+        self.text.clone_from(&other.text);
     }
 
-    pub fn slices(&mut self) -> (&mut [i64], &mut [u32], &mut [i64], &mut [u32]) {
+    pub fn slices(&mut self) -> Slices<'_> {
         let [values, labels, output, trace] = self.lengths;
         (
             &mut self.values[..values],
             &mut self.labels[..labels],
             &mut self.output[..output],
             &mut self.trace[..trace],
+            &mut self.text[..self.room],
         )
+    }
+
+    /// The rows and the text that a run with this answer released.
+    pub fn released(&self, answer: [u32; 4]) -> (&[i64], &[u8]) {
+        let [_, rows, columns, length] = answer.map(|number| number as usize);
+        (&self.output[..rows * columns], &self.text[..length])
     }
 
     /// Where the contents first differ, margins included.
@@ -67,17 +86,20 @@ impl Lent {
             first(&self.labels, &other.labels),
             first(&self.output, &other.output),
             first(&self.trace, &other.trace),
+            first(&self.text, &other.text),
         ];
         let found = places.iter().position(|place| place.is_some())?;
         let (at, one, two) = places[found]?;
         Some(format!("{} element {at}: {one} and {two}", NAMES[found]))
     }
 
-    /// Document 01's last words on the slices, tested on their own: what a run
+    /// The documents' last words on the slices, tested on their own: what a run
     /// with this answer and this many trace lines may have changed.
     pub fn breach(&self, before: &Lent, answer: [u32; 4], finished: usize) -> Option<String> {
-        let begun = answer[0] == 0 || answer[0] >= 31;
-        let cells = if answer[0] == 0 { (answer[1] * answer[2]) as usize } else { 0 };
+        let released = answer[0] == 0;
+        let begun = released || answer[0] >= 31;
+        let cells = if released { (answer[1] * answer[2]) as usize } else { 0 };
+        let length = if released { answer[3] as usize } else { 0 };
         let cleared = if begun { NEEDED[0] } else { 0 };
         let lines = if begun { 4 * finished } else { 0 };
         let zero = self.values[..cleared].iter().all(|&value| value == 0)
@@ -88,7 +110,8 @@ impl Lent {
         let same = self.values[cleared..] == before.values[cleared..]
             && self.labels[cleared..] == before.labels[cleared..]
             && self.output[cells..] == before.output[cells..]
-            && self.trace[lines..] == before.trace[lines..];
+            && self.trace[lines..] == before.trace[lines..]
+            && self.text[length..] == before.text[length..];
         if !same {
             return Some("something changed that has to stay".into());
         }

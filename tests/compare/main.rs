@@ -11,8 +11,10 @@
 //! behind them; what may change has changed and nothing else; containers made
 //! to be refused are refused with the number and the place they were made for;
 //! two containers that differ only in locked cells give the same answer and the
-//! same contents; slices too short are refused with 1 and unchanged, those for
-//! the answer too; the product's input checks answer as the reference's do.
+//! same contents; the text of a release reads back as its rows, and with too
+//! little room for it the release is refused with 51; slices too short are
+//! refused with 1 and unchanged, those for the answer too; the product's input
+//! checks answer as the reference's do.
 //!
 //! Prints how often each class occurred. The exit status is 1 after a
 //! difference, or if some class never occurred (not asked for a single INDEX).
@@ -36,12 +38,14 @@ mod observe;
 mod product;
 mod rng;
 mod scenes;
+mod texts;
 
 use classes::Classes;
 use damage::DAMAGES;
 use lent::{long_enough, Lent, NEEDED};
 use reference::container::{parse, Container};
 use reference::eval::evaluate;
+use reference::release::released;
 use rng::Rng;
 
 /// The number and the offset that a container was made for.
@@ -117,8 +121,12 @@ impl Harness {
 
     fn compare(&mut self, rng: &mut Rng, bytes: &[u8], expected: Expected) -> Result<(), String> {
         let pattern = rng.next();
-        let answer = self.both(bytes, long_enough(rng), pattern)?;
+        let parsed = parse(bytes);
+        let (finished, length) = parsed.as_ref().map_or((0, 0), outlook);
+        let room = texts::enough(rng, length);
+        let answer = self.both(bytes, long_enough(rng), room, pattern)?;
         self.classes.hit(number_class(answer[0]));
+        texts::refused_before(answer[0], room, &mut self.classes);
         if let Some((class, number, offset)) = expected {
             if answer != [number, offset as u32, 0, 0] {
                 return Err(format!("{class}: {answer:?}, made for {number} at {offset}"));
@@ -135,24 +143,25 @@ impl Harness {
             return Err(format!("check: reference {expected:?}, product {found:?}"));
         }
         self.classes.hit(if found[0] == 0 { "check: accepted" } else { "check: refused" });
-        match (parse(bytes), checked) {
+        if let Some(what) = self.ours.breach(&self.before, answer, finished) {
+            return Err(what);
+        }
+        match (parsed, checked) {
             (Ok(container), Ok(())) => {
-                let finished = evaluate(&container).trace.len();
-                if let Some(what) = self.ours.breach(&self.before, answer, finished) {
-                    return Err(what);
+                if answer[0] == 0 {
+                    self.text(answer, room)?;
                 }
                 let seen = observe::observe(bytes, &container, &mut self.classes);
                 self.locked(rng, bytes, &container, answer, seen.over)?;
-            }
-            (Err(one), Err(two)) if one == two && one.fault.number() == answer[0] => {
-                if let Some(what) = self.ours.breach(&self.before, answer, 0) {
-                    return Err(what);
+                if answer[0] == 0 {
+                    self.no_room(rng, bytes, &container, answer, seen.over)?;
                 }
             }
+            (Err(one), Err(two)) if one == two && one.fault.number() == answer[0] => (),
             _ => return Err("check and run differ".into()),
         }
         if rng.chance(10) {
-            self.short(rng, bytes, pattern, answer)?;
+            self.short(rng, bytes, pattern, answer, length)?;
         }
         Ok(())
     }
@@ -163,14 +172,14 @@ impl Harness {
         &mut self,
         bytes: &[u8],
         lengths: [usize; 4],
+        room: usize,
         pattern: u64,
     ) -> Result<[u32; 4], String> {
         self.runs += 1;
-        self.before.fill(lengths, pattern);
+        self.before.fill(lengths, room, pattern);
         self.ours.copy_from(&self.before);
         self.theirs.copy_from(&self.before);
-        let (values, labels, output, trace) = self.ours.slices();
-        let ours = reference::run(bytes, values, labels, output, trace).numbers();
+        let ours = by_reference(bytes, &mut self.ours);
         let theirs = answers::run(bytes, &mut self.theirs, pattern)?;
         if ours != theirs {
             return Err(format!("answers: reference {ours:?}, product {theirs:?}"));
@@ -179,6 +188,40 @@ impl Harness {
             Some(what) => Err(format!("contents, reference and product: {what}")),
             None => Ok(ours),
         }
+    }
+
+    /// Demand 2: the text of a release, read, "yields the rows in order".
+    fn text(&mut self, answer: [u32; 4], room: usize) -> Result<(), String> {
+        let columns = answer[2] as usize;
+        let (rows, text) = self.theirs.released(answer);
+        if texts::read(text) != Some((columns, rows.to_vec())) {
+            return Err("the text does not read as the rows".into());
+        }
+        texts::released(columns, rows, text.len(), room, &mut self.classes);
+        Ok(())
+    }
+
+    /// A release again, with too little room for its text.
+    fn no_room(
+        &mut self,
+        rng: &mut Rng,
+        bytes: &[u8],
+        container: &Container,
+        release: [u32; 4],
+        over: bool,
+    ) -> Result<(), String> {
+        let steps = container.plan.len();
+        let room = texts::too_little(rng, release[3] as usize, release[2] as usize);
+        let answer = self.both(bytes, long_enough(rng), room, rng.next())?;
+        if answer != [51, steps as u32, 0, 0] {
+            return Err(format!("{room} bytes for the text of {release:?}: {answer:?}"));
+        }
+        if let Some(what) = self.ours.breach(&self.before, answer, steps) {
+            return Err(format!("51: {what}"));
+        }
+        self.classes.hit(number_class(answer[0]));
+        texts::refused(release, steps, room, &mut self.classes);
+        self.locked(rng, bytes, container, answer, over)
     }
 
     /// Demand 3: the same container with other values in its locked cells.
@@ -217,8 +260,7 @@ impl Harness {
         self.runs += 1;
         self.ours.copy_from(&self.before);
         self.theirs.copy_from(&self.before);
-        let (values, labels, output, trace) = self.ours.slices();
-        let ours = reference::run(&other, values, labels, output, trace).numbers();
+        let ours = by_reference(&other, &mut self.ours);
         let theirs = answers::run(&other, &mut self.theirs, rng.next())?;
         if ours != answer || theirs != answer {
             return Err(format!("locked pair: {answer:?}, reference {ours:?}, product {theirs:?}"));
@@ -235,7 +277,8 @@ impl Harness {
             33 => "pair: refused with 33",
             34 => "pair: refused with 34",
             35 => "pair: refused with 35",
-            _ => "pair: refused with 36",
+            36 => "pair: refused with 36",
+            _ => "pair: refused with 51",
         });
         if let Ok(container) = parse(&other) {
             let differs =
@@ -252,6 +295,7 @@ impl Harness {
         bytes: &[u8],
         pattern: u64,
         answer: [u32; 4],
+        length: usize,
     ) -> Result<(), String> {
         const CLASSES: [&str; 4] = ["1 work values", "1 work labels", "1 output", "1 trace"];
         for slice in 0..4 {
@@ -261,14 +305,14 @@ impl Harness {
                 1 => rng.below(NEEDED[slice]),
                 _ => NEEDED[slice] - 1,
             };
-            self.refused_short(bytes, lengths, pattern)?;
+            self.refused_short(bytes, lengths, texts::enough(rng, 0), pattern)?;
             self.classes.hit(CLASSES[slice]);
             self.classes.hit_if(lengths[slice] == 0, "1 with an empty slice");
         }
-        self.refused_short(bytes, NEEDED.map(|needed| needed - 1), pattern)?;
-        self.refused_short(bytes, [0; 4], pattern)?;
+        self.refused_short(bytes, NEEDED.map(|needed| needed - 1), length, pattern)?;
+        self.refused_short(bytes, [0; 4], 0, pattern)?;
         self.classes.hit("1 all slices");
-        self.before.fill(NEEDED, pattern);
+        self.before.fill(NEEDED, length, pattern);
         self.theirs.copy_from(&self.before);
         answers::short_run(bytes, &mut self.theirs, pattern)?;
         if let Some(what) = self.theirs.difference(&self.before) {
@@ -278,7 +322,7 @@ impl Harness {
         answers::short_check(bytes, pattern)?;
         self.classes.hit("1 answer of the input checks");
         self.classes.hit_if((11..20).contains(&answer[0]), "1 before a refusal of the input");
-        if self.both(bytes, NEEDED, pattern)? != answer {
+        if self.both(bytes, NEEDED, length, pattern)? != answer {
             return Err("another answer with slices of just the length needed".into());
         }
         self.classes.hit("slices of just the length needed");
@@ -289,17 +333,34 @@ impl Harness {
         &mut self,
         bytes: &[u8],
         lengths: [usize; 4],
+        room: usize,
         pattern: u64,
     ) -> Result<(), String> {
-        let answer = self.both(bytes, lengths, pattern)?;
+        let answer = self.both(bytes, lengths, room, pattern)?;
         if answer != [1, 0, 0, 0] {
             return Err(format!("slices {lengths:?}: {answer:?}"));
         }
+        texts::refused_before(answer[0], room, &mut self.classes);
         match self.ours.difference(&self.before) {
             Some(what) => Err(format!("slices {lengths:?}: {what}")),
             None => Ok(()),
         }
     }
+}
+
+/// How many steps the evaluation finishes, and the length of the text that it
+/// is released with, 0 if it is not.
+fn outlook(container: &Container) -> (usize, usize) {
+    let evaluation = evaluate(container);
+    let text = evaluation
+        .outcome
+        .map_or(String::new(), |table| reference::text::of(table.columns, &released(&table)));
+    (evaluation.trace.len(), text.len())
+}
+
+fn by_reference(container: &[u8], lent: &mut Lent) -> [u32; 4] {
+    let (values, labels, output, trace, text) = lent.slices();
+    reference::run(container, values, labels, output, trace, text).numbers()
 }
 
 fn near_valid(rng: &mut Rng, mut draft: draft::Draft) -> (Vec<u8>, Expected) {
@@ -354,6 +415,7 @@ fn number_class(number: u32) -> &'static str {
         34 => "answer: 34",
         35 => "answer: 35",
         36 => "answer: 36",
-        _ => "answer: no number of document 01",
+        51 => "answer: 51",
+        _ => "answer: no number of the documents",
     }
 }

@@ -24,6 +24,8 @@ extern "C" {
         output_len: usize,
         trace: *mut u32,
         trace_len: usize,
+        text: *mut u8,
+        text_len: usize,
         answer: *mut u64,
         answer_len: usize,
     ) -> u32;
@@ -39,7 +41,7 @@ extern "C" {
 /// Runs the product; answers what the function itself answers.
 #[cfg(not(reference_only))]
 pub fn call_run(container: &[u8], lent: &mut Lent, answer: &mut [u64]) -> u32 {
-    let (values, labels, output, trace) = lent.slices();
+    let (values, labels, output, trace, text) = lent.slices();
     // Each pointer comes from a slice of the length given with it.
     unsafe {
         cilunovay_run(
@@ -53,6 +55,8 @@ pub fn call_run(container: &[u8], lent: &mut Lent, answer: &mut [u64]) -> u32 {
             output.len(),
             trace.as_mut_ptr(),
             trace.len(),
+            text.as_mut_ptr(),
+            text.len(),
             answer.as_mut_ptr(),
             answer.len(),
         )
@@ -72,8 +76,8 @@ pub fn call_run(container: &[u8], lent: &mut Lent, answer: &mut [u64]) -> u32 {
     if answer.len() < RUN_ANSWER {
         return 1;
     }
-    let (values, labels, output, trace) = lent.slices();
-    let numbers = crate::reference::run(container, values, labels, output, trace).numbers();
+    let (values, labels, output, trace, text) = lent.slices();
+    let numbers = crate::reference::run(container, values, labels, output, trace, text).numbers();
     answer[..RUN_ANSWER].copy_from_slice(&numbers.map(u64::from));
     numbers[0]
 }

@@ -12,7 +12,7 @@ pub struct Scene {
     pub steps: Vec<RawStep>,
 }
 
-const SCENES: [fn(&mut Rng) -> Scene; 13] = [
+const SCENES: [fn(&mut Rng) -> Scene; 15] = [
     union_at_the_limit,
     join_at_the_limit,
     whole_output,
@@ -26,6 +26,8 @@ const SCENES: [fn(&mut Rng) -> Scene; 13] = [
     sums_at_the_ends,
     over_before_a_stage,
     group_a_composed_label,
+    any_digits,
+    longest_text,
 ];
 
 pub fn scene(rng: &mut Rng) -> Scene {
@@ -295,4 +297,32 @@ fn group_a_composed_label(rng: &mut Rng) -> Scene {
     let (one, two) = (rng.below(5) as u8, rng.below(5) as u8);
     let steps = vec![scan(0), step(7, 3, one, 2, 0, 0), step(7, 1, two, 2, 0, 0)];
     Scene { tables: vec![RawTable { columns: 3, cells }], steps }
+}
+
+/// A table of any width, released as it is: values of any number of digits, and
+/// those beside the powers of ten.
+fn any_digits(rng: &mut Rng) -> Scene {
+    let (columns, rows) = (1 + rng.below(8), rng.below(12));
+    let mut cells = Vec::new();
+    for _ in 0..columns * rows {
+        let power = 10i64.pow(rng.below(15) as u32);
+        let value = match rng.below(4) {
+            0 => power,
+            1 => power - 1,
+            2 => rng.between(power, 10 * power - 1),
+            _ => number(rng),
+        };
+        let signed = if rng.chance(50) { -value } else { value };
+        cells.push((signed.clamp(LOWEST, HIGHEST), 0));
+    }
+    Scene { tables: vec![RawTable { columns, cells }], steps: vec![scan(0)] }
+}
+
+/// 256 rows of 8 values -2^47; sometimes one of them is another.
+fn longest_text(rng: &mut Rng) -> Scene {
+    let mut cells = vec![(LOWEST, 0); 256 * 8];
+    if rng.chance(30) {
+        cells[rng.below(256 * 8)].0 = number(rng);
+    }
+    Scene { tables: vec![RawTable { columns: 8, cells }], steps: vec![scan(0)] }
 }

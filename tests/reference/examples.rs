@@ -58,8 +58,8 @@ fn examples_8_to_10_values() {
     assert_eq!(label(0x80000000).after_operation(&add), Err(Forbidden));
 }
 
-/// The printed case, with the label of the two cells in column 1.
-fn printed(word: u32) -> String {
+/// The printed case's container, with the label of the two cells in column 1.
+pub fn printed_case(word: u32) -> Vec<u8> {
     let mut bytes = vec![2, 0];
     for number in [18u32, 32, 50, 52] {
         bytes.extend(number.to_le_bytes());
@@ -72,8 +72,12 @@ fn printed(word: u32) -> String {
         bytes.extend(label.to_le_bytes());
     }
     assert_eq!(bytes.len(), 102);
+    bytes
+}
+
+fn printed(word: u32) -> String {
     let mut text = String::new();
-    print_run(&bytes, &mut text);
+    print_run(&printed_case(word), &mut text);
     text
 }
 

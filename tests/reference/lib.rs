@@ -1,15 +1,17 @@
 //! A reference implementation of the release monitor, for tests only.
 //!
-//! Written from document 01, "The release monitor and its labels", and nothing
-//! else. Each module names the sentences of the document that it follows:
+//! Written from document 01, "The release monitor and its labels", and from
+//! request #101 of document 02, and nothing else. Each module names the
+//! sentences that it follows:
 //!
 //! - `label`: "The label, one 32-bit word"
 //! - `value`: "Values"
 //! - `steps`: "Steps on a stack of at most three tables", and 17 to 19
 //! - `container`: "The container", and 11 to 16
 //! - `table`: the tables that steps read and make
-//! - `eval`: what the steps do, and 31 to 34
-//! - `release`: `run`, `check`, 1, 35, 36, and what becomes of the lent slices
+//! - `eval`: what the steps do, and 31 to 36
+//! - `text`: a released table as text, #101
+//! - `release`: `run`, `check`, 1, 51, and what becomes of the lent slices
 //!
 //! Labels are structures of optional stages, values an enum with a case for
 //! OVER, tables vectors of cells; joins and groups use hash maps; every sum is
@@ -21,6 +23,7 @@ pub mod label;
 pub mod release;
 pub mod steps;
 pub mod table;
+pub mod text;
 pub mod value;
 
 pub use container::{InputFault, InputRefusal};

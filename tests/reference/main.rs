@@ -1,10 +1,14 @@
-//! The monitor program of document 01, by the reference implementation, and the
-//! answers of the trials.
+//! The monitor program of document 01, by the reference implementation, the
+//! text of a release, and the answers of the trials.
 //!
 //!     rustc -O --edition 2021 -o reference tests/reference/main.rs
 //!
 //!     reference             runs the container on standard input
 //!     reference FILE..      runs each container, behind a line with its name
+//!     reference export      writes the text of the release, or the refusal's
+//!                           line to standard error
+//!     reference texts FILE..  the answers with much and little room for the
+//!                           text, behind a line with the name, and the text
 //!     reference check FILE..  a line for each: what the input checks answer
 //!     reference labels      a line for each line of standard input, a question
 //!                           to the label library, with its answer
@@ -18,7 +22,7 @@ mod label_trials;
 mod step_trials;
 
 use reference::container::parse;
-use reference::release::{OUTPUT_LENGTH, TRACE_LENGTH, WORK_LENGTH};
+use reference::release::{OUTPUT_LENGTH, TEXT_LENGTH, TRACE_LENGTH, WORK_LENGTH};
 use reference::{run, Answer};
 use std::fmt::{Display, Write as _};
 use std::io::{self, Read, Write};
@@ -33,6 +37,16 @@ fn main() {
             for (index, question) in input().lines().enumerate() {
                 let line = label_trials::line(question).unwrap_or_else(|| no_line(index + 1));
                 writeln!(text, "{line}").unwrap();
+            }
+        }
+        ["export"] => match export(&read(io::stdin(), "standard input")) {
+            Ok(release) => text = release,
+            Err(refusal) => eprintln!("{refusal}"),
+        },
+        ["texts", ref names @ ..] => {
+            for name in names {
+                writeln!(text, "{name}").unwrap();
+                print_texts(&read_file(name), &mut text);
             }
         }
         ["steps"] => text = step_trials::lines(&input()).unwrap_or_else(|number| no_line(number)),
@@ -96,38 +110,92 @@ fn print_check(name: &str, container: &[u8], text: &mut String) {
     }
 }
 
-/// "per finished step `S`, step, kind, rows, columns, stages left; then per
-/// released row `R` and its values, or `X`, the number and the place"
-fn print_run(container: &[u8], text: &mut String) {
+/// What a run leaves in slices that were zero.
+struct Left {
+    answer: Answer,
+    output: Vec<i64>,
+    trace: Vec<u32>,
+    text: Vec<u8>,
+}
+
+/// Runs a container with so many bytes of room for the text.
+fn run_in(room: usize, container: &[u8]) -> Left {
     let mut values = vec![0i64; WORK_LENGTH];
     let mut labels = vec![0u32; WORK_LENGTH];
     let mut output = vec![0i64; OUTPUT_LENGTH];
-    // No step has kind 0, so a zero kind ends the finished steps.
     let mut trace = vec![0u32; TRACE_LENGTH];
-    let answer = run(container, &mut values, &mut labels, &mut output, &mut trace);
-    for (step, line) in trace.chunks(4).take_while(|line| line[0] != 0).enumerate() {
-        writeln!(text, "S {step} {} {} {} {}", line[0], line[1], line[2], line[3]).unwrap();
-    }
-    match answer {
-        Answer::Released { rows, columns } => {
-            for row in output.chunks(columns).take(rows) {
-                text.push('R');
-                for value in row {
-                    write!(text, " {value}").unwrap();
-                }
-                text.push('\n');
+    let mut text = vec![0u8; room];
+    let answer = run(container, &mut values, &mut labels, &mut output, &mut trace, &mut text);
+    Left { answer, output, trace, text }
+}
+
+impl Left {
+    /// The text of a release, or "`X`, the number and the place (one number or
+    /// three)".
+    fn export(self) -> Result<String, String> {
+        let [number, step, row, column] = self.answer.numbers();
+        match self.answer {
+            Answer::Released { length, .. } => {
+                let text = self.text[..length].to_vec();
+                Ok(String::from_utf8(text).expect("names, numbers, commas and line ends"))
+            }
+            Answer::Input(refusal) => Err(format!("X {number} {}", refusal.offset)),
+            Answer::ShortSlice | Answer::State(_) | Answer::ShortText { .. } => {
+                Err(format!("X {number} {step} {row} {column}"))
             }
         }
-        Answer::Input(refusal) => {
-            writeln!(text, "X {} {}", refusal.fault.number(), refusal.offset).unwrap();
-        }
-        Answer::ShortSlice | Answer::State(_) => {
-            let [number, step, row, column] = answer.numbers();
-            writeln!(text, "X {number} {step} {row} {column}").unwrap();
+    }
+}
+
+fn export(container: &[u8]) -> Result<String, String> {
+    run_in(TEXT_LENGTH, container).export()
+}
+
+/// "per finished step `S`, step, kind, rows, columns, stages left; then per
+/// released row `R` and its values, or `X`, the number and the place". The
+/// program "lends room enough for every write".
+fn print_run(container: &[u8], text: &mut String) {
+    let left = run_in(TEXT_LENGTH, container);
+    // No step has kind 0, so a zero kind ends the finished steps.
+    for (step, line) in left.trace.chunks(4).take_while(|line| line[0] != 0).enumerate() {
+        writeln!(text, "S {step} {} {} {} {}", line[0], line[1], line[2], line[3]).unwrap();
+    }
+    if let Answer::Released { rows, columns, .. } = left.answer {
+        for row in left.output.chunks(columns).take(rows) {
+            text.push('R');
+            for value in row {
+                write!(text, " {value}").unwrap();
+            }
+            text.push('\n');
         }
     }
+    if let Err(refusal) = left.export() {
+        writeln!(text, "{refusal}").unwrap();
+    }
+}
+
+/// More than any text needs.
+const MUCH_ROOM: usize = 40_000;
+
+/// A line for each length of the text's slice: `T`, the length, and the numbers
+/// of the answer; then the text of a release.
+fn print_texts(container: &[u8], text: &mut String) {
+    let release = export(container).unwrap_or_default();
+    let mut rooms = vec![0];
+    if !release.is_empty() {
+        rooms.extend([release.len() - 1, release.len()]);
+    }
+    rooms.push(MUCH_ROOM);
+    for room in rooms {
+        let [number, one, two, three] = run_in(room, container).answer.numbers();
+        writeln!(text, "T {room} {number} {one} {two} {three}").unwrap();
+    }
+    text.push_str(&release);
 }
 
 #[cfg(test)]
 #[path = "examples.rs"]
 mod examples;
+
+#[cfg(test)]
+mod text_examples;

@@ -2,35 +2,49 @@
 
 use super::container::{parse, InputRefusal};
 use super::eval::{evaluate, StateRefusal};
+use super::table::Table;
+use super::text;
 use super::value::Value;
 
 pub const WORK_LENGTH: usize = 8_192;
 pub const OUTPUT_LENGTH: usize = 2_048;
 pub const TRACE_LENGTH: usize = 256;
+/// Room for every text: the longest has 256 rows of 8 values -2^47.
+pub const TEXT_LENGTH: usize = 35_097;
 
 #[derive(Clone, Copy, PartialEq, Eq, Debug)]
 pub enum Answer {
+    /// With the length of the text.
     Released {
         rows: usize,
         columns: usize,
+        length: usize,
     },
     /// 1: "a lent slice is too short".
     ShortSlice,
     Input(InputRefusal),
     State(StateRefusal),
+    /// Document 02's 51, "when that slice is shorter than the text".
+    ShortText {
+        step: usize,
+    },
 }
 
 impl Answer {
-    /// The number (0 for a release), then rows, columns and 0, or the place:
-    /// an offset and two zeros, or step, row and column.
+    /// The number (0 for a release), then rows, columns and the text's length,
+    /// or the place: an offset and two zeros, or step, row and column.
     pub fn numbers(&self) -> [u32; 4] {
         match *self {
-            Answer::Released { rows, columns } => [0, rows as u32, columns as u32, 0],
+            Answer::Released { rows, columns, length } => {
+                [0, rows as u32, columns as u32, length as u32]
+            }
             Answer::ShortSlice => [1, 0, 0, 0],
             Answer::Input(refusal) => [refusal.fault.number(), refusal.offset as u32, 0, 0],
             Answer::State(StateRefusal { fault, step, row, column }) => {
                 [fault.number(), step as u32, row as u32, column as u32]
             }
+            // "the step are as for 35, row and column 0"
+            Answer::ShortText { step } => [51, step as u32, 0, 0],
         }
     }
 }
@@ -46,8 +60,10 @@ pub fn run(
     work_labels: &mut [u32],
     output: &mut [i64],
     trace: &mut [u32],
+    lent_text: &mut [u8],
 ) -> Answer {
-    // 1: "First of all checks; place zeros; nothing changes."
+    // 1: "First of all checks; place zeros; nothing changes." The text's slice
+    // is not among those that it tests.
     if work_values.len() < WORK_LENGTH
         || work_labels.len() < WORK_LENGTH
         || output.len() < OUTPUT_LENGTH
@@ -70,16 +86,29 @@ pub fn run(
     work_values[..WORK_LENGTH].fill(0);
     work_labels[..WORK_LENGTH].fill(0);
 
-    match evaluation.outcome {
-        Err(refusal) => Answer::State(refusal),
-        Ok(table) => {
-            for (place, cell) in output.iter_mut().zip(&table.cells) {
-                match cell.value {
-                    Value::Known(number) => *place = number,
-                    Value::Over => unreachable!("a released table has no OVER"),
-                }
-            }
-            Answer::Released { rows: table.rows(), columns: table.columns }
-        }
+    let table = match evaluation.outcome {
+        Err(refusal) => return Answer::State(refusal),
+        Ok(table) => table,
+    };
+    let values = released(&table);
+    let text = text::of(table.columns, &values);
+    // 51, "after the run's own refusals; the slice is unchanged, all else and
+    // the step are as for 35".
+    if lent_text.len() < text.len() {
+        return Answer::ShortText { step: container.plan.len() };
     }
+    // "The text goes, beside the rows, to a lent byte slice of its own, from
+    // its start, and the answer gains its length."
+    output[..values.len()].copy_from_slice(&values);
+    lent_text[..text.len()].copy_from_slice(text.as_bytes());
+    Answer::Released { rows: table.rows(), columns: table.columns, length: text.len() }
+}
+
+/// The values of a table that is released, row by row.
+pub fn released(table: &Table) -> Vec<i64> {
+    let number = |value: Value| match value {
+        Value::Known(number) => number,
+        Value::Over => unreachable!("a released table has no OVER"),
+    };
+    table.cells.iter().map(|cell| number(cell.value)).collect()
 }

@@ -92,6 +92,25 @@ STATE = [
     ),
 ]
 
+# Releases that are refused with 51, because the text has no room.
+NO_ROOM = [
+    (
+        ["SCAN 0"],
+        ["table 1"],
+        "The text has 4 bytes, and the program lent fewer; 35,097 are enough for every text.",
+    ),
+    (
+        ["SCAN 0", "APPLY 0 sub 10"],
+        ["table 1", "0", "10", "9"],
+        "The text has 26 bytes, and the program lent fewer; 35,097 are enough for every text.",
+    ),
+    (
+        ["SCAN 0"],
+        ["table 8", "repeat 256:" + " -140737488355328" * 8],
+        "The text has 35,097 bytes, and the program lent fewer; 35,097 are enough for every text.",
+    ),
+]
+
 # Plans and tables that the input checks refuse.
 INPUT = [
     (["SCAN 2"], ["table 1", "table 1"], "Step 0, SCAN of table 2: table 2 does not exist: the container has 2 tables, 0 to 1."),

@@ -9,6 +9,7 @@ import steps
 from layout import ROWS, taken
 
 OVER = 2**47
+LONGEST_TEXT = 35097  # bytes of a released table's text
 
 # a cell with what it was made of: a FromTable, a FromApply or a FromGroup; a copy keeps it
 Cell = namedtuple("Cell", "value label source")
@@ -224,6 +225,13 @@ def release_refusal(table):
             if not in_range(cell.value):
                 return 36, number, column
     return None
+
+
+def text_of(table):
+    """The comma-separated text of a released table."""
+    lines = [[f"c{column}" for column in range(table.columns)]]
+    lines += [[str(cell.value) for cell in row.cells] for row in table.rows]
+    return "".join(f"{','.join(line)}\r\n" for line in lines)
 
 
 def evaluate(plan, tables):

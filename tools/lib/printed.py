@@ -10,7 +10,8 @@ from words import plural
 LONGEST_OUTPUT = 65536  # bytes; 64 lines S and 256 lines R are shorter
 
 INPUT = range(11, 20)  # refusals with a byte offset
-STATE = (1, *range(31, 37))  # refusals with a step, a row and a column
+NO_ROOM = 51  # the text of a release has no room
+STATE = (1, *range(31, 37), NO_ROOM)  # refusals with a step, a row and a column
 
 # a line: its letter and its numbers
 Line = namedtuple("Line", "letter numbers")
@@ -87,18 +88,8 @@ class Follower:
             self.steps += 1
         return reason
 
-    def unfinished(self):
-        """Why nothing can be released after the lines so far, or None."""
-        if not self.stack:
-            return "no step is finished"
-        if len(self.stack) > 1:
-            return f"the steps so far leave {len(self.stack)} tables, and one is released"
-        if self.stack[-1].stages:
-            return f"the last step leaves {plural(self.stack[-1].stages, 'stage')}, and a release has none"
-        return None
-
     def row(self, values):
-        reason = self.unfinished()
+        reason = unfinished(self.stack)
         if reason:
             return f"it is a released row, and {reason}"
         columns = self.stack[-1].columns
@@ -130,12 +121,23 @@ class Follower:
         """Why the output does not end here, or None."""
         if self.ended:
             return None
-        reason = self.unfinished()
+        reason = unfinished(self.stack)
         if reason:
             return f"there is neither a release nor a refusal: {reason}"
         if self.released != self.stack[-1].rows:
             return f"the table has {plural(self.stack[-1].rows, 'row')}, and {self.released} are printed"
         return None
+
+
+def unfinished(stack):
+    """Why nothing can be released after the steps that leave these tables, or None."""
+    if not stack:
+        return "no step is finished"
+    if len(stack) > 1:
+        return f"the steps so far leave {len(stack)} tables, and one is released"
+    if stack[-1].stages:
+        return f"the last step leaves {plural(stack[-1].stages, 'stage')}, and a release has none"
+    return None
 
 
 def shape_fault(shape):
@@ -224,6 +226,8 @@ def state_place_fault(number, step, row, column, stack, finished):
         return too_many_fault(row, column, stack)
     if number in (35, 36):
         return release_place_fault(number, row, column, stack)
+    if number == NO_ROOM:
+        return no_room_fault(row, column, stack)
     read = stack[-2:] if number == 31 else stack[-1:]
     if row >= sum(shape.rows for shape in read) or column >= max(shape.columns for shape in read):
         return f"there is no row {row}, column {column} in what step {step} can read"
@@ -248,6 +252,14 @@ def release_place_fault(number, row, column, stack):
     if (stack[-1].stages == 0) != (number == 36):
         return f"the last step leaves {plural(stack[-1].stages, 'stage')}, and {number} is another refusal"
     return None
+
+
+def no_room_fault(row, column, stack):
+    """51 stands where the rows of a release would."""
+    if (row, column) != (0, 0):
+        return f"the place of refusal {NO_ROOM} is the number of steps, 0 and 0"
+    reason = unfinished(stack)
+    return f"refusal {NO_ROOM} stands in place of a release, and {reason}" if reason else None
 
 
 def followed(lines):

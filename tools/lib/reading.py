@@ -5,7 +5,7 @@ import evaluate
 import layout
 import steps
 from console import plain, read_file
-from printed import Line, Misfit
+from printed import NO_ROOM, Line, Misfit
 from words import plural
 
 
@@ -21,13 +21,15 @@ class Reading:
             self.plan, self.tables = layout.contents(data)
             self.result = evaluate.evaluate(self.plan, self.tables)
 
-    def lines(self):
-        """The lines that the monitor prints by this reading."""
+    def lines(self, room=True):
+        """The lines that the monitor prints by this reading; without room for its text, 51 stands in place of a release's rows."""
         if self.refusal:
             return [Line("X", [self.refusal.number, self.refusal.place])]
         lines = [Line("S", [k, *line]) for k, line in enumerate(self.result.lines)]
         if self.result.refused:
             return lines + [Line("X", list(self.result.refused))]
+        if not room:
+            return lines + [Line("X", [NO_ROOM, len(self.plan), 0, 0])]
         return lines + [Line("R", [cell.value for cell in row.cells]) for row in self.result.stack[-1].rows]
 
     def step(self, k):
@@ -70,10 +72,14 @@ def difference(line, wanted, reading):
 
 
 def fitted(lines, reading):
-    """Sees that every line is the one that the container asks for, and that none is missing. After 1 no container was read."""
+    """Sees that every line is the one that the container asks for, and that none is missing.
+
+    After 1 no container was read. 51 may stand in place of the rows of every release: the container does not settle it.
+    """
     if lines == [Line("X", [1, 0, 0, 0])]:
         return
-    for count, (line, wanted) in enumerate(zip_longest(lines, reading.lines()), 1):
+    room = (lines[-1].letter, lines[-1].numbers[0]) != ("X", NO_ROOM)
+    for count, (line, wanted) in enumerate(zip_longest(lines, reading.lines(room)), 1):
         if line != wanted:
             blame = f"the output was changed, is not that of {reading.path}, or is misread by this script"
             raise Misfit(count, f"{difference(line, wanted, reading)}: {blame}")

@@ -1,7 +1,7 @@
 """Sentences for the monitor's output: what each step made, why it refused, and what to do."""
 import labels
 import steps
-from evaluate import FromApply, FromTable, TableRow, cut_digits, joined_count
+from evaluate import LONGEST_TEXT, FromApply, FromTable, TableRow, cut_digits, joined_count, text_of
 from words import plural
 
 # What a refusal says of itself where the container is not at hand. docs/REFUSALS.md has the same numbers.
@@ -24,6 +24,7 @@ STATE = {
     34: "the step would make more than 256 rows",
     35: "{cell} still has a stage of its label",
     36: "{cell} is OVER, a result outside the range of values",
+    51: "the program lent the monitor too few bytes for the table's comma-separated text",
 }
 CAUSES = {
     31: "Causes: the raw column was used, and not the copy that an APPLY appends; a cut took too few digits off; the operation is not"
@@ -37,6 +38,7 @@ CAUSES = {
     35: "Causes: a group with fewer rows than a label asks for; an aggregate or operation that a label does not allow; a cut that took"
     " too few digits off; a raw column left in beside its copy; or H or N, which no step removes.",
     36: "Causes: a sum, a difference or a band left the range of values, or one of its operands was OVER already.",
+    51: f"Cause: the program lends fewer bytes than the text has; {LONGEST_TEXT:,} are enough for every text.",
 }
 # The clerk's action for each number, the same words as in docs/REFUSALS.md.
 ACTIONS = {
@@ -56,6 +58,7 @@ ACTIONS = {
     34: "Ask the analyst for a report over fewer rows. Never have the rows of one precinct split between reports.",
     35: "Publish nothing of it, no other row either. Ask the analyst for larger groups or fewer columns.",
     36: "Ask the analyst for another column or a coarser unit.",
+    51: "Tell the vendor of the program that calls the monitor. Your file is not at fault.",
 }
 
 
@@ -151,6 +154,11 @@ def over(cell, plan):
     return f"Step {cell.source.step}, {steps.described(plan[cell.source.step])}, made it."
 
 
+def no_room(table):
+    """How many bytes the text has that found no room."""
+    return f"The text has {len(text_of(table)):,} bytes, and the program lent fewer; {LONGEST_TEXT:,} are enough for every text."
+
+
 class Explained:
     """The sentences for the lines of an output; `reading` is that of the container, or None."""
 
@@ -228,6 +236,8 @@ class Explained:
         """What the container shows of a refusal because of the state."""
         if number == 34:
             return too_many(self.plan[k], self.result.stack)
+        if number == 51:
+            return no_room(self.result.stack[-1])
         table, at = self.sides(number, k, row) if number < 35 else (-1, row)
         cell = self.result.stack[table].rows[at].cells[column]
         if number == 32:

@@ -1,4 +1,4 @@
--- Every APPLY of a plan names an operation that exists. Assumes nothing.
+-- Every APPLY of a plan names an operation that exists, and every KEEP keeps some column. Assumes nothing.
 use Prim.Native.Nat.{ℕ, zero, suc, _+_, _-_, _^_}
 use mathlib.Core.Path.{_≡_, refl}
 use mathlib.Core.Bool.{Bool, true, false, cond, not, _&&_, and-eq-true-iff}
@@ -54,7 +54,7 @@ kind-has kind f =
     (has-cond (eqb kind 2) _ _ (has-when (zeros (f .a + f .b + f .c + f .d) (f .constant)) Union (λ _. refl))
     (has-cond (eqb kind 3) _ _ (has-when (zeros (f .c + f .d) (f .constant)) (Join (f .a) (f .b)) (λ _. refl))
     (has-cond (eqb kind 4) _ _ (has-when (ltb (f .b) 6 && operandWritten f) (Filter (f .a) (comparisonOf (f .b)) (operandOf f)) (λ _. refl))
-    (has-cond (eqb kind 5) _ _ (has-when (not (eqb (f .a) 0) && zeros (f .b + f .c + f .d) (f .constant)) (Keep (f .a)) (λ _. refl))
+    (has-cond (eqb kind 5) _ _ (has-when (not (eqb (f .a) 0) && zeros (f .b + f .c + f .d) (f .constant)) (Keep (f .a)) (λ e. and-eq-true-iff (not (eqb (f .a) 0)) (zeros (f .b + f .c + f .d) (f .constant)) .0 e .0))
     (has-cond (eqb kind 6) _ _ (apply-has (f .b) f)
     (has-cond (eqb kind 7) _ _ (has-when (ltb (f .b) 5 && zeros (f .d) (f .constant)) (Group (f .a) (aggregateOf (f .b)) (f .c)) (λ _. refl)) tt))))))
 

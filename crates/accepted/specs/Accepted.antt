@@ -1,8 +1,9 @@
 -- What an accepted container holds. Each of these is proved.
 use Prim.Native.Nat.{ℕ, _+_, _-_, _*_, _≤_, _<_}
 use mathlib.Core.Path.{_≡_}
-use mathlib.Core.Bool.{Bool, true}
+use mathlib.Core.Bool.{Bool, true, not}
 use mathlib.Core.List.{List, [], _∷_, map}
+use lib.Dec.{eqb}
 use lib.ListN.{length, getD, drop}
 use Rattle.container.specs.Check.{accepted, checkInput}
 use Rattle.container.specs.Contents.{planOf, tablesOf}
@@ -65,13 +66,13 @@ Placed tables stack (step ∷ later) =
 abbrev pub PlanPlaced : Type 0
 PlanPlaced = (bytes : List ℕ) → checkInput bytes ≡ accepted → Placed (map (λ table. table .columns) (tablesOf bytes)) [] (planOf bytes)
 
--- APPLY's operation exists: a cut takes off 1 to 6 digits
+-- APPLY's operation exists: a cut takes off 1 to 6 digits; and KEEP keeps some column
 abbrev pub operationExists : Step → Bool
 operationExists (Scan table) = true
 operationExists Union = true
 operationExists (Join left right) = true
 operationExists (Filter column comparison operand) = true
-operationExists (Keep mask) = true
+operationExists (Keep mask) = not (eqb mask 0)
 operationExists (Apply column transform) = operationFits transform
 operationExists (Group keys aggregate column) = true
 

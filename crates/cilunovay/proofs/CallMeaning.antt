@@ -35,7 +35,7 @@ four-stored a b c d (_ ∷ _ ∷ _ ∷ []) h = absurd (omega arith)
 four-stored a b c d (_ ∷ _ ∷ _ ∷ _ ∷ rest) h = refl
 
 told-stored : (told : Told) (old : List ℕ) → 4 ≤ length old → fourStored (numbersOf told) old ≡ written (numbersOf told) old
-told-stored (released rows columns) = four-stored 0 rows columns 0
+told-stored (released rows columns bytes) = four-stored 0 rows columns bytes
 told-stored (refusedInput number place) = four-stored number place 0 0
 told-stored (refusedState number step row column) = four-stored number step row column
 

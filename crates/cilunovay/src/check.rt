@@ -1,7 +1,7 @@
 // The input checks alone.
 ghost use mathlib.Core.Path.{_≡_};
 ghost use Rattle.demands.specs.Calls.{checkCall, checkCalled};
-use super::numbers::check_numbers;
+use call_numbers::check_numbers;
 
 // Checks a container, writes document 01's number and the byte offset after it to the answer's start, and answers the number: 0, and
 // offset 0, where the container is accepted. Where the answer has fewer than two elements, it stays as it is and the number is 1.

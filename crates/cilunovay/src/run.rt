@@ -3,9 +3,9 @@ ghost use mathlib.Core.Path.{_≡_};
 ghost use Rattle.demands.specs.Given.{given};
 ghost use Rattle.demands.specs.Lent.{lent};
 ghost use Rattle.demands.specs.Calls.{runCall, runCalled};
-use super::numbers::run_numbers;
+use call_numbers::run_numbers;
 
-// Runs the monitor, writes document 01's number and the three numbers after it to the answer's start, and answers the number: 0 for a
+// Runs the monitor, writes the number of its answer and the three numbers after it to the answer's start, and answers the number: 0 for a
 // release. Where the answer has fewer than four elements, nothing lent changes and the number is 1.
 #[no_mangle]
 pub extern "C" fn cilunovay_run(
@@ -14,16 +14,18 @@ pub extern "C" fn cilunovay_run(
     labels: &mut [u32],
     output: &mut [i64],
     trace: &mut [u32],
+    text: &mut [u8],
     answer: &mut [u64],
 ) -> u32
-    ensures { λ r. ⌜ runCalled r (lent (now (values .exit)) (now (labels .exit)) (now (output .exit)) (now (trace .exit))) (now (answer .exit))
+    ensures { λ r. ⌜ runCalled r
+        (lent (now (values .exit)) (now (labels .exit)) (now (output .exit)) (now (trace .exit)) (now (text .exit))) (now (answer .exit))
         ≡ runCall (given (now (container .entry)))
-        (lent (now (values .entry)) (now (labels .entry)) (now (output .entry)) (now (trace .entry))) (now (answer .entry)) ⌝ }
+        (lent (now (values .entry)) (now (labels .entry)) (now (output .entry)) (now (trace .entry)) (now (text .entry))) (now (answer .entry)) ⌝ }
 {
     if answer.len() < 4 {
         return 1;
     }
-    let told = evaluator::run(container, values, labels, output, trace);
+    let told = evaluator::run(container, values, labels, output, trace, text);
     let numbers = run_numbers(told);
     answer[0] = numbers[0];
     answer[1] = numbers[1];

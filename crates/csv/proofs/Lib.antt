@@ -1,11 +1,5 @@
--- What the proofs share.
-mod Digits
-mod Cells
-mod Writing
-mod Texts
-mod Spots
-mod Steps
-mod Reading
-mod LongestProof
-mod OneTextProof
-mod ReadsBackProof
+-- `FailsProof`, `LongestProof`, `OneTextProof` and `ReadsBackProof` are for the proofs of other crates to cite.
+pub mod FailsProof
+pub mod LongestProof
+pub mod OneTextProof
+pub mod ReadsBackProof

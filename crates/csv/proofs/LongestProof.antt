@@ -11,10 +11,10 @@ use Rattle.plan.specs.Table.{Each}
 use Rattle.value.specs.Range.{inRange, least, most}
 use Rattle.value.specs.Pattern.{negative, magnitudeOf}
 use Rattle.value.proofs.Sizes.{in-size}
-use Rattle.csv.specs.Text.{digitsOf, digits, decimal, line, lines, textOf}
+use Rattle.csv_text.specs.Text.{digitsOf, digits, decimal, line, lines, textOf}
 use Rattle.csv.specs.Propositions.{LongestText}
-use Rattle.csv.proofs.Cells.{header-length}
-use Rattle.csv.proofs.Digits.{few, minus-first, no-minus}
+use Rattle.csv_writer.proofs.Cells.{header-length}
+use Rattle.csv_writer.proofs.Digits.{few, minus-first, no-minus}
 
 value-short : (v : ℤ) → inRange v ≡ true → length (decimal v) ≤ 16
 unfolding magnitudeOf

@@ -15,17 +15,17 @@ use Rattle.plan.specs.Table.{Each}
 use Rattle.value.specs.Range.{inRange}
 use Rattle.value.specs.Pattern.{negative, magnitudeOf}
 use Rattle.value.proofs.Sizes.{size-in}
-use Rattle.csv.specs.Text.{names, header, digits, decimal, textOf, cut}
-use Rattle.csv.specs.Reader.{Read, table, failsAt, largest, isDigit, digitOf, valueOf, nextSpot, ended, rowsEnded, isWrong, atEnd, readFrom, readText}
+use Rattle.csv_text.specs.Text.{names, header, digits, decimal, textOf, cut}
+use Rattle.csv_reader.specs.Reader.{Read, table, failsAt, largest, isDigit, digitOf, valueOf, nextSpot, ended, rowsEnded, isWrong, atEnd, readFrom, readText}
 use Rattle.csv.specs.Propositions.{IsTable, OneText}
-use Rattle.csv.specs.promises.Cells.{separator, spelled}
-use Rattle.csv.specs.declared.spot.Spot.{Spot}
-use Rattle.csv.specs.declared.spot.Spot.the-variants.{Names, Header, Value, Minus, Digits, Row, Wrong}
-use Rattle.csv.proofs.Cells.{last-separator, other-separator, last-left, other-left, text-spelled}
-use Rattle.csv.proofs.Digits.{digits-one, digits-more}
-use Rattle.csv.proofs.Spots.{digit-size, more-is}
-use Rattle.csv.proofs.Steps.{Step, name, header as header-ended, header-feed, minus, first, first-below, more, last, other, row-feed, step, Shape, shape-next, return-ends, comma-ends}
-use Rattle.csv.proofs.Reading.{read-on, read-stops, few-columns, many-columns}
+use Rattle.csv_writer.specs.promises.Cells.{separator, spelled}
+use Rattle.csv_reader.specs.declared.spot.Spot.{Spot}
+use Rattle.csv_reader.specs.declared.spot.Spot.the-variants.{Names, Header, Value, Minus, Digits, Row, Wrong}
+use Rattle.csv_writer.proofs.Cells.{last-separator, other-separator, last-left, other-left, text-spelled}
+use Rattle.csv_writer.proofs.Digits.{digits-one, digits-more}
+use Rattle.csv_reader.proofs.Spots.{digit-size, more-is}
+use Rattle.csv_reader.proofs.Steps.{Step, name, header as header-ended, header-feed, minus, first, first-below, more, last, other, row-feed, step, Shape, shape-next, return-ends, comma-ends}
+use Rattle.csv_reader.proofs.Reading.{read-on, read-stops, few-columns, many-columns}
 
 -- ---- one value more
 

@@ -15,24 +15,24 @@ use Rattle.plan.specs.Table.{Each}
 use Rattle.value.specs.Range.{inRange}
 use Rattle.value.specs.Pattern.{negative, magnitudeOf}
 use Rattle.value.proofs.Sizes.{in-size}
-use Rattle.csv.specs.Text.{names, header, digits, decimal, line, lines, textOf, cut}
-use Rattle.csv.specs.Reader.{largest, isDigit, digitOf, valueOf, afterNames, afterReturn, afterSeparator, afterMinus, afterDigits, nextSpot, ended, rowsEnded, isWrong, atEnd, readFrom}
+use Rattle.csv_text.specs.Text.{names, header, digits, decimal, line, lines, textOf, cut}
+use Rattle.csv_reader.specs.Reader.{largest, isDigit, digitOf, valueOf, afterNames, afterReturn, afterSeparator, afterMinus, afterDigits, nextSpot, ended, rowsEnded, isWrong, atEnd, readFrom}
 use Rattle.csv.specs.Propositions.{TextReadsBack}
-use Rattle.csv.specs.promises.Reading.{flat}
-use Rattle.csv.specs.declared.spot.Spot.{Spot}
-use Rattle.csv.specs.declared.spot.Spot.the-variants.{Names, Header, Value, Minus, Digits, Row}
-use Rattle.csv.proofs.Digits.{digits-one, digits-more, by-size, minus-first, no-minus}
-use Rattle.csv.proofs.Spots.{and-false, one-more, no-digit}
-use Rattle.csv.proofs.Reading.{read-on, few-columns}
+use Rattle.csv_reader.specs.promises.Reading.{concat}
+use Rattle.csv_reader.specs.declared.spot.Spot.{Spot}
+use Rattle.csv_reader.specs.declared.spot.Spot.the-variants.{Names, Header, Value, Minus, Digits, Row}
+use Rattle.csv_writer.proofs.Digits.{digits-one, digits-more, by-size, minus-first, no-minus}
+use Rattle.csv_reader.proofs.Spots.{and-false, one-more, no-digit}
+use Rattle.csv_reader.proofs.Reading.{read-on, few-columns}
 
 -- ---- from one spot to another, whatever stands around
 
 -- the bytes take a reader from one spot to another, with these values and rows more
-record Goes (fewest : ℕ) (from to : Spot) (more : List ℤ) (rowsMore : ℕ) (bytes : List ℕ) : Type 0 where
-  goes : (values : List ℤ) (rows place : ℕ) (rest : List ℕ)
+pub record Goes (fewest : ℕ) (from to : Spot) (more : List ℤ) (rowsMore : ℕ) (bytes : List ℕ) : Type 0 where
+  pub goes : (values : List ℤ) (rows place : ℕ) (rest : List ℕ)
       → readFrom fewest from values rows place (bytes ++ rest) ≡ readFrom fewest to (values ++ more) (rows + rowsMore) (place + length bytes) rest
 
-then-goes : {fewest : ℕ} {a b c : Spot} {v w : List ℤ} {m n : ℕ} {x y : List ℕ} → Goes fewest a b v m x → Goes fewest b c w n y → Goes fewest a c (v ++ w) (m + n) (x ++ y)
+pub then-goes : {fewest : ℕ} {a b c : Spot} {v w : List ℤ} {m n : ℕ} {x y : List ℕ} → Goes fewest a b v m x → Goes fewest b c w n y → Goes fewest a c (v ++ w) (m + n) (x ++ y)
 then-goes {fewest} {a} {b} {c} {v} {w} {m} {n} {x} {y} g h = record {
   goes = λ values rows place rest.
       let p : place + length x + length y ≡ place + length (x ++ y) = simp length-append (omega arith) in
@@ -40,7 +40,7 @@ then-goes {fewest} {a} {b} {c} {v} {w} {m} {n} {x} {y} g h = record {
       rw (append-assoc x y rest) (g .goes values rows place (y ++ rest) ∙ h .goes (values ++ v) (rows + m) (place + length x) rest ∙ rw (append-assoc values v w, p, r));
 }
 
-one-goes : (fewest : ℕ) (a b : Spot) (byte : ℕ) → nextSpot fewest a byte ≡ b → isWrong b ≡ false → Goes fewest a b (ended a byte) (rowsEnded a) (byte ∷ [])
+pub one-goes : (fewest : ℕ) (a b : Spot) (byte : ℕ) → nextSpot fewest a byte ≡ b → isWrong b ≡ false → Goes fewest a b (ended a byte) (rowsEnded a) (byte ∷ [])
 one-goes fewest a b byte e f = record {
   goes = λ values rows place rest. rw (← e, add-one place) (read-on fewest a values rows place byte rest (rw e f));
 }
@@ -50,7 +50,7 @@ none-goes fewest a = record { goes = λ values rows place rest. rw (append-nil, 
 
 -- ---- the header
 
-name-goes : (fewest j : ℕ) → j < 23 → Goes fewest (Names j) (Names (j + 1)) [] 0 (getD names j 0 ∷ [])
+pub name-goes : (fewest j : ℕ) → j < 23 → Goes fewest (Names j) (Names (j + 1)) [] 0 (getD names j 0 ∷ [])
 unfolding nextSpot afterNames ended rowsEnded isWrong
 name-goes fewest j h = one-goes fewest (Names j) (Names (j + 1)) (getD names j 0) (rw (lt-ltb j 23 h, eq-eqb (getD names j 0) (getD names j 0) refl)) refl
 
@@ -78,7 +78,7 @@ not-there (x ∷ xs) (suc i) e = not-there xs i (go (eqb 13 x) e)
     go true f = absurd (false≢true f)
     go false f = f
 
-return-goes : (fewest n : ℕ) → 1 ≤ n → n ≤ 8 → fewest ≤ n → Goes fewest (Names (3 * n - 1)) (Header n) [] 0 (13 ∷ [])
+pub return-goes : (fewest n : ℕ) → 1 ≤ n → n ≤ 8 → fewest ≤ n → Goes fewest (Names (3 * n - 1)) (Header n) [] 0 (13 ∷ [])
 unfolding nextSpot afterNames ended rowsEnded isWrong without
 return-goes fewest n h k l =
     let i = 3 * n - 1 in
@@ -86,7 +86,7 @@ return-goes fewest n h k l =
     let q : i / 3 + 1 ≡ n = omega arith in
     one-goes fewest (Names i) (Header n) 13 (rw (not-there names i refl, and-false (ltb i 23), r, q, le-leb fewest n l)) refl
 
-feed-goes : (fewest n : ℕ) → Goes fewest (Header n) (Value n n) [] 0 (10 ∷ [])
+pub feed-goes : (fewest n : ℕ) → Goes fewest (Header n) (Value n n) [] 0 (10 ∷ [])
 unfolding nextSpot afterReturn ended rowsEnded isWrong
 feed-goes fewest n = one-goes fewest (Header n) (Value n n) 10 refl refl
 
@@ -120,13 +120,13 @@ module _ (fewest columns left : ℕ) (below : Bool) (a : Spot)
       by-size s (λ b. rw (digits-one s b) (begin s b n))
       (λ b. rw (digits-more s b) (then-goes (digits-go k (s / 10) (omega arith) (omega arith) (λ e. omega arith)) (last-digit s b l)))
 
-from-value : (fewest columns left s : ℕ) → s < 10 → Goes fewest (Value columns left) (Digits columns left false s) [] 0 ((48 + s) ∷ [])
+pub from-value : (fewest columns left s : ℕ) → s < 10 → Goes fewest (Value columns left) (Digits columns left false s) [] 0 ((48 + s) ∷ [])
 unfolding nextSpot afterSeparator ended rowsEnded isWrong
 from-value fewest columns left s h =
     let d = digit-byte s h in
     one-goes fewest (Value columns left) (Digits columns left false s) (48 + s) (rw (ne-eqb (48 + s) 45 (λ e. omega arith), d .0, d .1)) refl
 
-from-minus : (fewest columns left s : ℕ) → s < 10 → 0 < s → Goes fewest (Minus columns left) (Digits columns left true s) [] 0 ((48 + s) ∷ [])
+pub from-minus : (fewest columns left s : ℕ) → s < 10 → 0 < s → Goes fewest (Minus columns left) (Digits columns left true s) [] 0 ((48 + s) ∷ [])
 unfolding nextSpot afterMinus ended rowsEnded isWrong
 from-minus fewest columns left s h k =
     let d = digit-byte s h in
@@ -151,17 +151,17 @@ value-goes fewest columns left (negsuc n) e f =
 
 -- ---- the separators
 
-last-goes : (fewest columns left : ℕ) (below : Bool) (size : ℕ) → left ≡ 1 → Goes fewest (Digits columns left below size) (Row columns) (valueOf below size ∷ []) 0 (13 ∷ [])
+pub last-goes : (fewest columns left : ℕ) (below : Bool) (size : ℕ) → left ≡ 1 → Goes fewest (Digits columns left below size) (Row columns) (valueOf below size ∷ []) 0 (13 ∷ [])
 unfolding nextSpot afterDigits ended rowsEnded isWrong isDigit
 last-goes fewest columns left below size e =
     one-goes fewest (Digits columns left below size) (Row columns) 13 (rw (no-digit below size 13 refl, eq-eqb left 1 e)) refl
 
-other-goes : (fewest columns left : ℕ) (below : Bool) (size : ℕ) → 1 < left → Goes fewest (Digits columns left below size) (Value columns (left - 1)) (valueOf below size ∷ []) 0 (44 ∷ [])
+pub other-goes : (fewest columns left : ℕ) (below : Bool) (size : ℕ) → 1 < left → Goes fewest (Digits columns left below size) (Value columns (left - 1)) (valueOf below size ∷ []) 0 (44 ∷ [])
 unfolding nextSpot afterDigits ended rowsEnded isWrong isDigit
 other-goes fewest columns left below size h =
     one-goes fewest (Digits columns left below size) (Value columns (left - 1)) 44 (rw (no-digit below size 44 refl, ne-eqb left 1 (λ e. omega arith), lt-ltb 1 left h)) refl
 
-row-goes : (fewest n : ℕ) → Goes fewest (Row n) (Value n n) [] 1 (10 ∷ [])
+pub row-goes : (fewest n : ℕ) → Goes fewest (Row n) (Value n n) [] 1 (10 ∷ [])
 unfolding nextSpot afterReturn ended rowsEnded isWrong
 row-goes fewest n = one-goes fewest (Row n) (Value n n) 10 refl refl
 
@@ -179,17 +179,17 @@ line-goes fewest columns left (v ∷ w ∷ row) e h a =
     (λ below size f g. rw f at (then-goes g (then-goes (other-goes fewest columns left below size (omega arith)) r)))
 
 lines-goes : (fewest columns : ℕ) (rows : List (List ℤ)) → 1 ≤ columns → Each (λ row. length row ≡ columns) rows → Each (λ row. Each (λ v. inRange v ≡ true) row) rows
-    → Goes fewest (Value columns columns) (Value columns columns) (flat rows) (length rows) (lines rows)
+    → Goes fewest (Value columns columns) (Value columns columns) (concat rows) (length rows) (lines rows)
 unfolding lines
 lines-goes fewest columns [] h w a = none-goes fewest (Value columns columns)
 lines-goes fewest columns (row ∷ rows) h w a =
     let z : 1 + length rows ≡ suc (length rows) = omega arith in
     rw z at (then-goes (line-goes fewest columns columns row (sym (w .0)) h (a .0)) (lines-goes fewest columns rows h (w .1) (a .1)))
 
-cut-flat : (columns : ℕ) (rows : List (List ℤ)) → Each (λ row. length row ≡ columns) rows → cut columns (length rows) (flat rows) ≡ rows
-cut-flat columns [] w = refl
-cut-flat columns (row ∷ rows) w =
-    rw (take-at row (flat rows) columns (w .0), drop-at row (flat rows) columns (w .0), cut-flat columns rows (w .1))
+cut-concat : (columns : ℕ) (rows : List (List ℤ)) → Each (λ row. length row ≡ columns) rows → cut columns (length rows) (concat rows) ≡ rows
+cut-concat columns [] w = refl
+cut-concat columns (row ∷ rows) w =
+    rw (take-at row (concat rows) columns (w .0), drop-at row (concat rows) columns (w .0), cut-concat columns rows (w .1))
 
 pub text-reads-back : TextReadsBack
 unfolding textOf readFrom atEnd
@@ -199,4 +199,4 @@ text-reads-back fewest columns rows h t =
     let r = g .goes [] 0 0 [] in
     let z : 0 + (0 + length rows) ≡ length rows = omega arith in
     rw (few-columns fewest (header columns ++ lines rows) (omega arith), ← append-nil (header columns ++ lines rows))
-    (r ∙ rw (z, eq-eqb columns columns refl, cut-flat columns rows (t .wide)))
+    (r ∙ rw (z, eq-eqb columns columns refl, cut-concat columns rows (t .wide)))

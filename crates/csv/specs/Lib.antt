@@ -1,5 +1,4 @@
--- Tables as comma-separated text. These files are what a reader must believe, but for `promises`: what the crates promise one another.
-pub mod Text
-pub mod Reader
+-- Tables as comma-separated text, from the crates that have it; and `Propositions`, sentences on the text and its reader, each proved.
+pub use Rattle.csv_text.specs.Text
+pub use Rattle.csv_reader.specs.Reader
 pub mod Propositions
-pub mod promises

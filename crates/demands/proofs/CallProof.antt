@@ -7,16 +7,16 @@ use native.Mathlib.Omega.{arith}
 use lib.Dec.{leb}
 use lib.ListN.{length, drop}
 use borrow.Author.Tests.{leb-true, leb-false, le-leb, lt-leb}
-use Rattle.demands.specs.Accuracy.{Refused, short, evaluated}
+use Rattle.demands.specs.Accuracy.{Refused, short, evaluated, no-room}
 use Rattle.demands.specs.Answers.{Told, released, refusedInput, refusedState}
 use Rattle.demands.specs.CallAccuracy as accuracy
 use Rattle.demands.specs.CallMemory.{CallShortKeepsAll, Leaves, CallLeaves, RestKept, CallKeepsRest}
 use Rattle.demands.specs.Calls.{RunCall, runCalled, runTold, runCall}
 use Rattle.demands.specs.Given.{Given}
 use Rattle.demands.specs.Lent.{Lent}
-use Rattle.demands.specs.Monitor.{Run, ended, monitor}
+use Rattle.demands.specs.Monitor.{Begun, Run, ended, monitor}
 use Rattle.demands.specs.CallAccuracy.{SecrecyOfCalls}
-use Rattle.demands.proofs.AccuracyProof.{released-is-released, refused-is-refused, trace-is-trace, input-is-checked, release-means, refusal-means, input-refusal-means}
+use Rattle.demands.proofs.AccuracyProof.{released-is-released, refused-is-refused, no-room-is-refused, trace-is-trace, input-is-checked, release-means, refusal-means, input-refusal-means}
 use Rattle.demands.proofs.LengthsProof.{lengths-kept}
 use Rattle.demands.proofs.MemoryProof.{input-refusal-keeps-all, begun-leaves-zero}
 use Rattle.demands.proofs.Runs.{short-keeps-all}
@@ -66,20 +66,21 @@ call-keeps-rest given lent answer =
   where
     told : 4 ≤ length answer → (told : Told) → monitor given lent .answer ≡ told
         → let call = runTold (ended told (monitor given lent .left)) answer in RestKept 4 answer (call .number) (call .answer)
-    told h (released rows columns) e = four-kept h
+    told h (released rows columns bytes) e = four-kept h
     told h (refusedInput number place) e = four-kept h
     told h (refusedState number step row column) e = four-kept h
 
 -- ---- demand 2, from the evaluation to the call
 
 pub call-releases : accuracy.CallReleases
-call-releases given lent answer h b table e =
-    let r = released-is-released given lent b table e in
-    rw (long-call given lent answer h, r .0) ((refl, refl), r .1)
+call-releases given lent answer h b table e room =
+    let r = released-is-released given lent b table e room in
+    rw (long-call given lent answer h, r .0) ((refl, refl), r .1, r .2)
 
 pub call-refuses : accuracy.CallRefuses
 call-refuses given lent answer h = (
   λ b number step row column e. rw (long-call given lent answer h, refused-is-refused given lent b number step row column e .0) (refl, refl),
+  λ b table e few. rw (long-call given lent answer h, no-room-is-refused given lent b table e few .0) (refl, refl),
   λ e. rw (long-call given lent answer h, short-keeps-all given lent e) (refl, refl),
 )
 
@@ -96,31 +97,40 @@ call-traces given lent answer h b = rw (long-call given lent answer h) (trace-is
 kept-leaves : {lent : Lent} (call : RunCall) → 1 ≤ call .number → call .number ≤ 19 → call .left ≡ lent → Leaves lent call
 kept-leaves {lent} call from to e = record {
   all-kept = λ _ _. e;
-  output-kept = λ _. ap (λ (l : Lent). l .output) e;
+  output-kept = λ _. (ap (λ (l : Lent). l .output) e, ap (λ (l : Lent). l .text) e);
   zeroed-by-release = λ n. absurd (omega arith);
   zeroed-by-refusal = λ n. absurd (omega arith);
-  lengths = rw e (record { values = refl; labels = refl; output = refl; trace = refl });
+  lengths = rw e (record { values = refl; labels = refl; output = refl; trace = refl; text = refl });
 }
 
 pub call-leaves : CallLeaves
 call-leaves given lent answer = by-call given lent answer (Leaves lent) (λ _. kept-leaves (runCalled 1 lent answer) (omega arith) (omega arith) refl) told
   where
-    refusal : {number step row column : ℕ} → Refused given lent number step row column
+    -- 31 to 36, and 51
+    begun-refusal : {number step row column : ℕ} → Begun given lent → 31 ≤ number
+        → (monitor given lent .left .output ≡ lent .output) × (monitor given lent .left .text ≡ lent .text)
         → Leaves lent (runTold (ended (refusedState number step row column) (monitor given lent .left)) answer)
-    refusal (short s) = kept-leaves _ (omega arith) (omega arith) (ap (λ (run : Run). run .left) (short-keeps-all given lent s))
-    refusal (evaluated {number} {step} {row} {column} b o from to) = record {
+    begun-refusal b from kept = record {
       all-kept = λ _ most. absurd (omega arith);
-      output-kept = λ _. refused-is-refused given lent b number step row column o .1;
+      output-kept = λ _. kept;
       zeroed-by-release = λ n. absurd (omega arith);
       zeroed-by-refusal = λ _. begun-leaves-zero given lent b;
       lengths = lengths-kept given lent;
     }
 
+    refusal : {number step row column : ℕ} → Refused given lent number step row column
+        → Leaves lent (runTold (ended (refusedState number step row column) (monitor given lent .left)) answer)
+    refusal (short s) = kept-leaves _ (omega arith) (omega arith) (ap (λ (run : Run). run .left) (short-keeps-all given lent s))
+    refusal (evaluated {number} {step} {row} {column} b o from to) =
+        let k = refused-is-refused given lent b number step row column o in
+        begun-refusal b from (k .1, k .2)
+    refusal (no-room {table} b o few) = let k = no-room-is-refused given lent b table o few in begun-refusal b (omega arith) (k .1, k .2)
+
     told : 4 ≤ length answer → (told : Told) → monitor given lent .answer ≡ told → Leaves lent (runTold (ended told (monitor given lent .left)) answer)
-    told h (released rows columns) e = record {
+    told h (released rows columns bytes) e = record {
       all-kept = λ least _. absurd (omega arith);
       output-kept = λ n. absurd (n refl);
-      zeroed-by-release = λ _. begun-leaves-zero given lent (release-means given lent rows columns e .begun);
+      zeroed-by-release = λ _. begun-leaves-zero given lent (release-means given lent rows columns bytes e .begun);
       zeroed-by-refusal = λ least. absurd (omega arith);
       lengths = lengths-kept given lent;
     }
@@ -136,6 +146,6 @@ call-means given lent answer = by-call given lent answer (accuracy.Called given 
   where
     told : 4 ≤ length answer → (told : Told) → monitor given lent .answer ≡ told
         → accuracy.Called given lent answer (runTold (ended told (monitor given lent .left)) answer)
-    told h (released rows columns) e = accuracy.releases h (refl, refl) (release-means given lent rows columns e)
+    told h (released rows columns bytes) e = accuracy.releases h (refl, refl) (release-means given lent rows columns bytes e)
     told h (refusedInput number place) e = accuracy.refuses-input h (refl, refl) (input-refusal-means given lent number place e)
     told h (refusedState number step row column) e = accuracy.refuses h (refl, refl) (refusal-means given lent number step row column e)

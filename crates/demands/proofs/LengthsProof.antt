@@ -8,20 +8,20 @@ use lib.Dec.{leb}
 use lib.IntN.{pos}
 use lib.ListN.{length, length-map}
 use borrow.Author.Tests.{leb-true}
-use Rattle.plan.specs.Evaluate.{Outcome, release, refuse}
 use Rattle.plan.specs.Trace.{flatLines}
 use Rattle.demands.specs.Lent.{enough}
 use Rattle.demands.specs.Memory.{SameLengths, LengthsKept}
-use Rattle.demands.specs.Monitor.{evaluation, rowsOut, leftBy, Begun}
+use Rattle.demands.specs.Monitor.{evaluation, runOutcome, rowsOut, textOut, leftBy, Begun}
 use Rattle.demands.proofs.Runs.{by-cases}
 use Rattle.demands.proofs.Slices.{filled-length, over-length}
 use Rattle.demands.proofs.Tables.{cells-most, lines-most}
+use Rattle.demands.proofs.Texts.{by-room}
 
 pub lengths-kept : LengthsKept
 lengths-kept given lent = by-cases given lent (λ run. SameLengths lent (run .left)) (λ short. same) (λ n p long check. same) kept
   where
     same : SameLengths lent lent
-    same = record { values = refl; labels = refl; output = refl; trace = refl }
+    same = record { values = refl; labels = refl; output = refl; trace = refl; text = refl }
 
     long : enough lent ≡ true → (8192 ≤ length (lent .values)) × (8192 ≤ length (lent .labels)) × (2048 ≤ length (lent .output)) × (256 ≤ length (lent .trace))
     long e =
@@ -33,16 +33,19 @@ lengths-kept given lent = by-cases given lent (λ run. SameLengths lent (run .le
         let c = and-eq-true-iff v l .0 (b .0) in
         (leb-true 8192 _ (c .0), leb-true 8192 _ (c .1), leb-true 2048 _ (b .1), leb-true 256 _ (a .1))
 
-    rows-most : Begun given lent → (o : Outcome) → evaluation given .outcome ≡ o → length (rowsOut o) ≤ 2048
-    rows-most b (release table) o = simp length-map (cells-most given (b .accepted-is) table o)
-    rows-most b (refuse number step row column) o = omega arith
+    fits : Begun given lent → (length (rowsOut (runOutcome given lent)) ≤ 2048) × (length (textOut (runOutcome given lent)) ≤ length (lent .text))
+    fits b =
+        by-room given lent (λ o. (length (rowsOut o) ≤ 2048) × (length (textOut o) ≤ length (lent .text)))
+        (λ table o room. (simp length-map (cells-most given (b .accepted-is) table o), room)) (λ table o short. (omega arith, omega arith))
+        (λ number step row column o. (omega arith, omega arith))
 
-    kept : Begun given lent → SameLengths lent (leftBy (evaluation given) lent)
+    kept : Begun given lent → SameLengths lent (leftBy (runOutcome given lent) (evaluation given .trace) lent)
     kept b =
         let h = long (b .long) in
         record {
           values = filled-length 8192 (pos 0) (lent .values) (h .0);
           labels = filled-length 8192 0 (lent .labels) (h .1);
-          output = over-length (rowsOut (evaluation given .outcome)) (lent .output) (le-trans (rows-most b (evaluation given .outcome) refl) (h .2));
+          output = over-length (rowsOut (runOutcome given lent)) (lent .output) (le-trans (fits b .0) (h .2));
           trace = over-length (flatLines (evaluation given .trace)) (lent .trace) (le-trans (lines-most given (b .accepted-is)) (h .3));
+          text = over-length (textOut (runOutcome given lent)) (lent .text) (fits b .1);
         }

@@ -7,7 +7,7 @@ use lib.IntN.{pos}
 use Rattle.plan.specs.Evaluate.{Outcome, release, refuse}
 use Rattle.demands.specs.Answers.{released, refusedInput}
 use Rattle.demands.specs.Memory.{RefusalKeepsOutput, InputRefusalKeepsAll, BegunLeavesZero}
-use Rattle.demands.specs.Monitor.{evaluation, answerOf, rowsOut, written}
+use Rattle.demands.specs.Monitor.{runOutcome, answerOf, rowsOut, textOut, written}
 use Rattle.demands.proofs.Runs.{begun-run, by-cases}
 use Rattle.demands.proofs.Slices.{filled-get, filled-past}
 
@@ -19,16 +19,18 @@ never-input (refuse number step row column) e = let z : _≡_ {A = ℕ} 0 1 = cc
 pub input-refusal-keeps-all : InputRefusalKeepsAll
 input-refusal-keeps-all given lent number place =
     by-cases given lent (λ run. run .answer ≡ refusedInput number place → run .left ≡ lent) (λ short e. refl) (λ n p long check e. refl)
-    (λ begun e. absurd (never-input (evaluation given .outcome) e))
+    (λ begun e. absurd (never-input (runOutcome given lent) e))
 
 pub refusal-keeps-output : RefusalKeepsOutput
 refusal-keeps-output given lent =
-    by-cases given lent (λ run. ((rows columns : ℕ) → run .answer ≢ released rows columns) → run .left .output ≡ lent .output)
-    (λ short other. refl) (λ n p long check other. refl) (λ begun. by-outcome (evaluation given .outcome))
+    by-cases given lent
+    (λ run. ((rows columns bytes : ℕ) → run .answer ≢ released rows columns bytes) → (run .left .output ≡ lent .output) × (run .left .text ≡ lent .text))
+    (λ short other. (refl, refl)) (λ n p long check other. (refl, refl)) (λ begun. by-outcome (runOutcome given lent))
   where
-    by-outcome : (o : Outcome) → ((rows columns : ℕ) → answerOf o ≢ released rows columns) → written (rowsOut o) (lent .output) ≡ lent .output
-    by-outcome (release table) other = absurd (other _ _ refl)
-    by-outcome (refuse number step row column) other = refl
+    by-outcome : (o : Outcome) → ((rows columns bytes : ℕ) → answerOf o ≢ released rows columns bytes)
+        → (written (rowsOut o) (lent .output) ≡ lent .output) × (written (textOut o) (lent .text) ≡ lent .text)
+    by-outcome (release table) other = absurd (other _ _ _ refl)
+    by-outcome (refuse number step row column) other = (refl, refl)
 
 pub begun-leaves-zero : BegunLeavesZero
 begun-leaves-zero given lent b = rw (begun-run given lent b) (record {

@@ -13,7 +13,7 @@ pub short-keeps-all : ShortKeepsAll
 unfolding monitor
 short-keeps-all given lent e = rw e
 
-by-input : (given : Given) (lent : Lent) → enough lent ≡ true → monitor given lent ≡ byInput (checkGiven given) given lent
+pub by-input : (given : Given) (lent : Lent) → enough lent ≡ true → monitor given lent ≡ byInput (checkGiven given) given lent
 unfolding monitor
 by-input given lent e = rw e
 
@@ -40,11 +40,3 @@ module _ (given : Given) (lent : Lent) (P : Run → Type 0) where
       by-length : (b : Bool) → enough lent ≡ b → P (monitor given lent)
       by-length true e = by-check e (checkGiven given) refl
       by-length false e = subst P (sym (short-keeps-all given lent e)) (short e)
-
--- the answer does not hang on what the lent slices hold
-pub answer-same : (given : Given) (a b : Lent) → enough a ≡ true → enough b ≡ true → monitor given a .answer ≡ monitor given b .answer
-answer-same given a b long long′ = rw (by-input given a long, by-input given b long′) (same (checkGiven given))
-  where
-    same : (v : InputVerdict) → byInput v given a .answer ≡ byInput v given b .answer
-    same accepted = refl
-    same (rejected number place) = refl

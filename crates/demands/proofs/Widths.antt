@@ -50,7 +50,7 @@ made-columns (Keep mask) tables stack = rw (width-at 0 stack)
 made-columns (Apply column transform) tables stack = rw (width-at 0 stack)
 made-columns (Group keys aggregate column) tables stack = rw (width-at 0 stack)
 
-widths-drop : (n : ℕ) (stack : List Table) → drop n (widthsOf stack) ≡ widthsOf (drop n stack)
+pub widths-drop : (n : ℕ) (stack : List Table) → drop n (widthsOf stack) ≡ widthsOf (drop n stack)
 widths-drop zero stack = refl
 widths-drop (suc n) [] = refl
 widths-drop (suc n) (table ∷ stack) = widths-drop n stack

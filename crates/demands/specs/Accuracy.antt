@@ -1,17 +1,19 @@
--- Demand 2, accuracy: every released row, trace line and refusal equals the evaluation of the plan by the rules.
-use Prim.Native.Nat.{ℕ, _*_, _≤_}
+-- Demand 2, accuracy: every released row, trace line, text and refusal equals the evaluation of the plan by the rules.
+use Prim.Native.Nat.{ℕ, _*_, _≤_, _<_}
 use mathlib.Core.Path.{_≡_}
 use mathlib.Core.Bool.{true, false}
 use mathlib.Core.List.{List, _++_, map}
 use lib.IntN.{ℤ}
-use lib.ListN.{length, drop}
+use lib.ListN.{length, take, drop}
+use Rattle.csv_text.specs.Text.{valueRows, tableText}
+use Rattle.csv_reader.specs.Reader as reader
 use Rattle.input.specs.Verdict.{rejected}
 use Rattle.plan.specs.Table.{flat, Each, Shaped, Table}
 use Rattle.plan.specs.Evaluate.{release, refuse}
 use Rattle.plan.specs.Trace.{flatLines}
 use Rattle.value.specs.Range.{inRange}
 use Rattle.demands.specs.Answers.{released, refusedInput, refusedState}
-use Rattle.demands.specs.Given.{Given, checkGiven}
+use Rattle.demands.specs.Given.{Given, checkGiven, planGiven}
 use Rattle.demands.specs.Lent.{Lent, enough}
 use Rattle.demands.specs.Monitor.{evaluation, Begun, monitor}
 
@@ -21,15 +23,18 @@ valuesOf table = map (λ cell. cell .value) (flat (table .rows))
 
 -- ---- releases
 
--- what the evaluation releases is released, row by row at the output's start
+-- what the evaluation releases is released where its text has room: row by row at the output's start, and as text at the start of its slice
 abbrev pub ReleasedIsReleased : Type 0
 ReleasedIsReleased = (given : Given) (lent : Lent) → Begun given lent → (table : Table) → evaluation given .outcome ≡ release table
-    → (monitor given lent .answer ≡ released (length (table .rows)) (table .columns))
+    → length (tableText table) ≤ length (lent .text)
+    → (monitor given lent .answer ≡ released (length (table .rows)) (table .columns) (length (tableText table)))
     × (monitor given lent .left .output ≡ valuesOf table ++ drop (length (flat (table .rows))) (lent .output))
+    × (monitor given lent .left .text ≡ tableText table ++ drop (length (tableText table)) (lent .text))
 
--- Why so many rows and columns are released, and the output is what it is: the evaluation releases a table of that size, every cell of it clear
--- and in the value range, and the output begins with its values; the rest is as it was.
-pub record Released (given : Given) (lent : Lent) (rows columns : ℕ) (output : List ℤ) : Type 0 where
+-- Why so many rows and columns are released with a text of so many bytes, and the output and the text's slice are what they are: the evaluation
+-- releases a table of that size, every cell of it clear and in the value range; the output begins with its values, and the slice with its text,
+-- and "reading it by the same grammar yields the rows in order"; the rest is as it was.
+pub record Released (given : Given) (lent : Lent) (rows columns bytes : ℕ) (output : List ℤ) (text : List ℕ) : Type 0 where
   pub begun : Begun given lent
   pub table : Table
   pub outcome : evaluation given .outcome ≡ release table
@@ -38,10 +43,13 @@ pub record Released (given : Given) (lent : Lent) (rows columns : ℕ) (output :
   pub shaped : Shaped table
   pub clear : Each (λ row. Each (λ cell. (cell .label ≡ 0) × (inRange (cell .value) ≡ true)) (row .cells)) (table .rows)
   pub output-is : output ≡ valuesOf table ++ drop (rows * columns) (lent .output)
+  pub as-many-bytes : length (tableText table) ≡ bytes
+  pub text-is : text ≡ tableText table ++ drop bytes (lent .text)
+  pub text-read : reader.readText 1 (take bytes text) ≡ reader.table columns (valueRows table)
 
 abbrev pub ReleaseMeans : Type 0
-ReleaseMeans = (given : Given) (lent : Lent) (rows columns : ℕ) → monitor given lent .answer ≡ released rows columns
-    → Released given lent rows columns (monitor given lent .left .output)
+ReleaseMeans = (given : Given) (lent : Lent) (rows columns bytes : ℕ) → monitor given lent .answer ≡ released rows columns bytes
+    → Released given lent rows columns bytes (monitor given lent .left .output) (monitor given lent .left .text)
 
 -- ---- refusals because of the state
 
@@ -49,13 +57,23 @@ ReleaseMeans = (given : Given) (lent : Lent) (rows columns : ℕ) → monitor gi
 abbrev pub RefusedIsRefused : Type 0
 RefusedIsRefused = (given : Given) (lent : Lent) → Begun given lent → (number step row column : ℕ) → evaluation given .outcome ≡ refuse number step row column
     → (monitor given lent .answer ≡ refusedState number step row column) × (monitor given lent .left .output ≡ lent .output)
+    × (monitor given lent .left .text ≡ lent .text)
+
+-- what it releases is refused with 51 where the slice is shorter than its text, and only there
+abbrev pub NoRoomIsRefused : Type 0
+NoRoomIsRefused = (given : Given) (lent : Lent) → Begun given lent → (table : Table) → evaluation given .outcome ≡ release table
+    → length (lent .text) < length (tableText table)
+    → (monitor given lent .answer ≡ refusedState 51 (length (planGiven given)) 0 0) × (monitor given lent .left .output ≡ lent .output)
+    × (monitor given lent .left .text ≡ lent .text)
 
 -- Why there is a refusal with a number at a step, row and column: a slice is too short, which gives 1 at zeros; or the evaluation refuses so,
--- with 31 to 36.
+-- with 31 to 36; or it releases a table whose text is longer than its slice, which gives 51.
 pub data Refused (given : Given) (lent : Lent) : ℕ → ℕ → ℕ → ℕ → Type 0 where
   short : enough lent ≡ false → Refused given lent 1 0 0 0
   evaluated : {number step row column : ℕ} → Begun given lent → evaluation given .outcome ≡ refuse number step row column
       → 31 ≤ number → number ≤ 36 → Refused given lent number step row column
+  no-room : {table : Table} → Begun given lent → evaluation given .outcome ≡ release table → length (lent .text) < length (tableText table)
+      → Refused given lent 51 (length (planGiven given)) 0 0
 
 abbrev pub RefusalMeans : Type 0
 RefusalMeans = (given : Given) (lent : Lent) (number step row column : ℕ) → monitor given lent .answer ≡ refusedState number step row column

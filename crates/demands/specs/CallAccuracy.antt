@@ -8,9 +8,10 @@ use Rattle.input.specs.Verdict.{accepted, rejected}
 use Rattle.plan.specs.Table.{flat, Table}
 use Rattle.plan.specs.Evaluate.{release, refuse}
 use Rattle.plan.specs.Trace.{flatLines}
+use Rattle.csv_text.specs.Text.{tableText}
 use Rattle.demands.specs.Accuracy.{valuesOf, Released, Refused, RefusedInput}
 use Rattle.demands.specs.Calls.{RunCall, runCall}
-use Rattle.demands.specs.Given.{Given, checkGiven}
+use Rattle.demands.specs.Given.{Given, checkGiven, planGiven}
 use Rattle.demands.specs.Lent.{Lent, enough}
 use Rattle.demands.specs.Monitor.{evaluation, Begun}
 use Rattle.demands.specs.Secrecy.{AlikeInputs}
@@ -21,18 +22,23 @@ use Rattle.demands.specs.Secrecy.{AlikeInputs}
 abbrev pub Tells : RunCall → List ℕ → List ℕ → Type 0
 Tells call numbers answer = (call .number ≡ getD numbers 0 0) × (call .answer ≡ numbers ++ drop 4 answer)
 
--- what the evaluation releases: 0, its rows and its columns, and its values in the output
+-- what the evaluation releases, where its text has room: 0, its rows, its columns and the bytes of its text, and its values and text in their
+-- slices
 abbrev pub CallReleases : Type 0
 CallReleases = (given : Given) (lent : Lent) (answer : List ℕ) → 4 ≤ length answer → Begun given lent → (table : Table)
-    → evaluation given .outcome ≡ release table
-    → Tells (runCall given lent answer) (0 ∷ length (table .rows) ∷ table .columns ∷ 0 ∷ []) answer
+    → evaluation given .outcome ≡ release table → length (tableText table) ≤ length (lent .text)
+    → Tells (runCall given lent answer) (0 ∷ length (table .rows) ∷ table .columns ∷ length (tableText table) ∷ []) answer
     × (runCall given lent answer .left .output ≡ valuesOf table ++ drop (length (flat (table .rows))) (lent .output))
+    × (runCall given lent answer .left .text ≡ tableText table ++ drop (length (tableText table)) (lent .text))
 
--- what it refuses: the number, the step, the row and the column; and 1 at zeros for another slice that is too short
+-- what it refuses: the number, the step, the row and the column; 51 at the number of steps for a text without room; and 1 at zeros for another
+-- slice that is too short
 abbrev pub CallRefuses : Type 0
 CallRefuses = (given : Given) (lent : Lent) (answer : List ℕ) → 4 ≤ length answer
     → (Begun given lent → (number step row column : ℕ) → evaluation given .outcome ≡ refuse number step row column
     → Tells (runCall given lent answer) (number ∷ step ∷ row ∷ column ∷ []) answer)
+    × (Begun given lent → (table : Table) → evaluation given .outcome ≡ release table → length (lent .text) < length (tableText table)
+    → Tells (runCall given lent answer) (51 ∷ length (planGiven given) ∷ 0 ∷ 0 ∷ []) answer)
     × (enough lent ≡ false → Tells (runCall given lent answer) (1 ∷ 0 ∷ 0 ∷ 0 ∷ []) answer)
 
 -- what the checks refuse: the number and the byte offset
@@ -47,10 +53,10 @@ CallTraces = (given : Given) (lent : Lent) (answer : List ℕ) → 4 ≤ length 
 
 -- ---- from the numbers told to the evaluation
 
--- Why a call tells what it tells: 0 for a release, 1 for a slice too short, 11 to 19 for the input, 31 to 36 for the state, and no other.
+-- Why a call tells what it tells: 0 for a release, 1 for a slice too short, 11 to 19 for the input, 31 to 36 and 51 for the state, and no other.
 pub data Called (given : Given) (lent : Lent) (answer : List ℕ) (call : RunCall) : Type 0 where
-  releases : {rows columns : ℕ} → 4 ≤ length answer → Tells call (0 ∷ rows ∷ columns ∷ 0 ∷ []) answer → Released given lent rows columns (call .left .output)
-      → Called given lent answer call
+  releases : {rows columns bytes : ℕ} → 4 ≤ length answer → Tells call (0 ∷ rows ∷ columns ∷ bytes ∷ []) answer
+      → Released given lent rows columns bytes (call .left .output) (call .left .text) → Called given lent answer call
   refuses : {number step row column : ℕ} → 4 ≤ length answer → Tells call (number ∷ step ∷ row ∷ column ∷ []) answer → Refused given lent number step row column
       → Called given lent answer call
   refuses-input : {number place : ℕ} → 4 ≤ length answer → Tells call (number ∷ place ∷ 0 ∷ 0 ∷ []) answer → RefusedInput given lent number place

@@ -13,9 +13,10 @@ use Rattle.demands.specs.Monitor.{Run, written, monitor}
 
 -- ---- `cilunovay_run`
 
--- what a run answers: 0, rows, columns and 0; or document 01's number and the place, a byte offset and two zeros, or a step, a row and a column
+-- what a run answers: 0, rows, columns and the bytes of the text; or the number and the place, a byte offset and two zeros, or a step, a row and
+-- a column
 abbrev pub numbersOf : Told → List ℕ
-numbersOf (released rows columns) = 0 ∷ rows ∷ columns ∷ 0 ∷ []
+numbersOf (released rows columns bytes) = 0 ∷ rows ∷ columns ∷ bytes ∷ []
 numbersOf (refusedInput number place) = number ∷ place ∷ 0 ∷ 0 ∷ []
 numbersOf (refusedState number step row column) = number ∷ step ∷ row ∷ column ∷ []
 

@@ -10,10 +10,10 @@ use Rattle.demands.specs.Given.{Given}
 use Rattle.demands.specs.Lent.{Lent, enough}
 use Rattle.demands.specs.Monitor.{Begun, monitor}
 
--- no refusal alters the output
+-- no refusal alters the output, or the slice for the text
 abbrev pub RefusalKeepsOutput : Type 0
-RefusalKeepsOutput = (given : Given) (lent : Lent) → ((rows columns : ℕ) → monitor given lent .answer ≢ released rows columns)
-    → monitor given lent .left .output ≡ lent .output
+RefusalKeepsOutput = (given : Given) (lent : Lent) → ((rows columns bytes : ℕ) → monitor given lent .answer ≢ released rows columns bytes)
+    → (monitor given lent .left .output ≡ lent .output) × (monitor given lent .left .text ≡ lent .text)
 
 -- an input refusal alters nothing, and neither does 1
 abbrev pub InputRefusalKeepsAll : Type 0
@@ -39,6 +39,7 @@ pub record SameLengths (lent left : Lent) : Type 0 where
   pub labels : length (left .labels) ≡ length (lent .labels)
   pub output : length (left .output) ≡ length (lent .output)
   pub trace : length (left .trace) ≡ length (lent .trace)
+  pub text : length (left .text) ≡ length (lent .text)
 
 abbrev pub LengthsKept : Type 0
 LengthsKept = (given : Given) (lent : Lent) → SameLengths lent (monitor given lent .left)

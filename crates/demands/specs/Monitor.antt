@@ -1,13 +1,16 @@
 -- The monitor: from what it is given and the lent slices to the answer and what the slices hold afterwards.
+use Prim.Native.Nat.{ℕ}
 use mathlib.Core.Path.{_≡_}
 use mathlib.Core.Bool.{true, cond}
 use mathlib.Core.List.{List, [], _++_, map}
+use lib.Dec.{leb}
 use lib.IntN.{ℤ, pos}
 use lib.ListN.{length, drop}
 use Rattle.input.specs.Verdict.{InputVerdict, accepted, rejected}
 use Rattle.plan.specs.Table.{flat}
 use Rattle.plan.specs.Evaluate.{Outcome, release, refuse, Result, evaluate}
-use Rattle.plan.specs.Trace.{flatLines}
+use Rattle.plan.specs.Trace.{Line, flatLines}
+use Rattle.csv_text.specs.Text.{tableText}
 use Rattle.tally.specs.Zeros.{filled}
 use Rattle.demands.specs.Answers.{Told, released, refusedInput, refusedState}
 use Rattle.demands.specs.Given.{Given, checkGiven, planGiven, prepared}
@@ -17,8 +20,18 @@ use Rattle.demands.specs.Lent.{Lent, enough}
 unfoldable pub evaluation : Given → Result
 evaluation given = evaluate (planGiven given) (prepared given)
 
+-- Change request #101: "It refuses with 51 when that slice is shorter than the text, after the run's own refusals; the slice is unchanged, all
+-- else and the step are as for 35, row and column 0."
+abbrev pub withText : ℕ → ℕ → Outcome → Outcome
+withText steps room (release table) = cond (leb (length (tableText table)) room) (release table) (refuse 51 steps 0 0)
+withText steps room (refuse number step row column) = refuse number step row column
+
+-- what a run comes to: the evaluation's outcome, or 51
+unfoldable pub runOutcome : Given → Lent → Outcome
+runOutcome given lent = withText (length (planGiven given)) (length (lent .text)) (evaluation given .outcome)
+
 abbrev pub answerOf : Outcome → Told
-answerOf (release table) = released (length (table .rows)) (table .columns)
+answerOf (release table) = released (length (table .rows)) (table .columns) (length (tableText table))
 answerOf (refuse number step row column) = refusedState number step row column
 
 -- the values of the released rows, row by row; a refusal has none
@@ -26,18 +39,25 @@ abbrev pub rowsOut : Outcome → List ℤ
 rowsOut (release table) = map (λ cell. cell .value) (flat (table .rows))
 rowsOut (refuse number step row column) = []
 
+-- the text of the released table
+abbrev pub textOut : Outcome → List ℕ
+textOut (release table) = tableText table
+textOut (refuse number step row column) = []
+
 -- a slice with these elements at its start, and the rest as it was
 abbrev pub written : {A : Type 0} → List A → List A → List A
 written news old = news ++ drop (length news) old
 
 -- "A release writes the rows to the output"; "write the trace lines of the finished steps from the start of the trace"; "Both leave the
--- first 8,192 elements of both work slices zero; everything else lent is unchanged."
-abbrev pub leftBy : Result → Lent → Lent
-leftBy result lent = record {
+-- first 8,192 elements of both work slices zero; everything else lent is unchanged." #101: "The text goes, beside the rows, to a lent byte slice
+-- of its own, from its start".
+abbrev pub leftBy : Outcome → List Line → Lent → Lent
+leftBy outcome trace lent = record {
   values = filled 8192 (pos 0) (lent .values);
   labels = filled 8192 0 (lent .labels);
-  output = written (rowsOut (result .outcome)) (lent .output);
-  trace = written (flatLines (result .trace)) (lent .trace);
+  output = written (rowsOut outcome) (lent .output);
+  trace = written (flatLines trace) (lent .trace);
+  text = written (textOut outcome) (lent .text);
 }
 
 pub record Run : Type 0 where
@@ -49,7 +69,7 @@ ended answer left = record { answer = answer; left = left }
 
 abbrev pub byInput : InputVerdict → Given → Lent → Run
 byInput (rejected number place) given lent = ended (refusedInput number place) lent
-byInput accepted given lent = ended (answerOf (evaluation given .outcome)) (leftBy (evaluation given) lent)
+byInput accepted given lent = ended (answerOf (runOutcome given lent)) (leftBy (runOutcome given lent) (evaluation given .trace) lent)
 
 -- "1 .. First of all checks"; then the input checks; then the evaluation
 unfoldable pub monitor : Given → Lent → Run

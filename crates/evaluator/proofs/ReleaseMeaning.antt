@@ -1,33 +1,38 @@
 -- The release in work memory and its meaning. Assumes nothing.
 use Prim.Native.Nat.{ℕ, zero, suc, _+_, _*_, _≤_, _<_}
 use mathlib.Core.Path.{_≡_, refl, sym, ap, ap₂, subst, _∙_}
-use mathlib.Core.Bool.{true}
-use mathlib.Core.List.{List, [], _++_, map}
+use mathlib.Core.Bool.{Bool, true, false, not}
+use mathlib.Core.List.{List, [], _∷_, _++_, map}
 use native.Mathlib.Nat.{mul-le-mul}
 use native.Mathlib.Omega.{arith}
+use lib.Dec.{leb}
 use lib.IntN.{ℤ}
 use lib.ListN.{length, take, drop, length-drop}
 use lib.Seq.{length-take-le}
 use borrow.Author.Tests.{le-leb}
 use Rattle.plan.specs.Masks.{inMask}
-use Rattle.plan.specs.Evaluate.{Outcome, release, checkRelease, firstOver, ending}
+use Rattle.plan.specs.Evaluate.{Outcome, release, refuse, checkRelease, firstOver, ending}
 use Rattle.plan.specs.Table.{Cell, Table, grid, labelsOf, rowsOf}
-use Rattle.plan.specs.Verdict.{Verdict, fine, refused, orElse, notClear}
-use Rattle.cells.specs.promises.Cells.{gridOf}
+use Rattle.plan.specs.Verdict.{Verdict, fine, refused, orElse, refuseIf, notClear}
+use Rattle.cells.specs.promises.Cells.{cellsOf, gridOf}
 use Rattle.cells.specs.promises.Search.{says, unfit, tableWithin, notClearAt}
-use Rattle.cells.specs.promises.Work.{Work, cellsIn, room}
+use Rattle.cells.specs.promises.Work.{Work, work, cellsIn, room}
 use Rattle.memory.specs.promises.Stack.{tableIn}
-use Rattle.cells.proofs.CellLaws.{cells-drop, le-within}
+use Rattle.cells.proofs.CellLaws.{cells-drop, values-front}
 use Rattle.memory.proofs.Finish.{says-is, never-unfit}
 use Rattle.cells.proofs.Rows.{grid-rows, rows-length}
 use Rattle.cells.proofs.Wanted.{search-same}
-use Rattle.tally.specs.promises.Output.{copies, copied}
+use Rattle.tally.specs.promises.Output.{copied}
 use Rattle.tally.specs.promises.Over.{firstOverAt}
 use Rattle.tally.proofs.Laws.{table-fits, table-over, table-values}
+use Rattle.csv_text.specs.Text.{cut, textOf, valueRows, tableText}
+use Rattle.csv_writer.specs.promises.Writing.{isTable, textFrom}
 use Rattle.demands.specs.Answers.{Told, released, refusedState}
-use Rattle.release.specs.promises.Release.{afterFine, releaseReply, outputAfter}
+use Rattle.release.specs.declared.ReleaseAnswer.{ReleaseAnswer}
+use Rattle.release.specs.promises.Release.{releaseSays, bytesTold, bytesAfter, outputAfter, exportAfter, afterFine, roomReply, releaseReply, Releases}
 use Rattle.walk.specs.promises.Walk.{finish}
-use Rattle.demands.specs.Monitor.{answerOf, rowsOut, written}
+use Rattle.demands.specs.Monitor.{answerOf, rowsOut, textOut, written, withText}
+use Rattle.evaluator.specs.promises.Ends.{Ends}
 
 -- every column is in the mask 255
 all-columns : (c : ℕ) → c < 8 → inMask 255 c ≡ true
@@ -41,6 +46,20 @@ all-columns (suc (suc (suc (suc (suc zero))))) h = refl
 all-columns (suc (suc (suc (suc (suc (suc zero)))))) h = refl
 all-columns (suc (suc (suc (suc (suc (suc (suc zero))))))) h = refl
 all-columns (suc (suc (suc (suc (suc (suc (suc (suc c)))))))) h = absurd (omega arith)
+
+-- what a verdict at release makes a run answer
+abbrev pub answerBy : ℕ → ℕ → ℕ → Verdict → ℕ → Told
+answerBy rows columns steps fine bytes = released rows columns bytes
+answerBy rows columns steps (refused number row column) bytes = refusedState number steps row column
+
+-- the values of rows in memory
+rows-cut : (columns rows : ℕ) (vs : List ℤ) (ls : List ℕ) → rows * columns ≤ length ls
+    → map (λ row. map (λ cell. cell .value) (row .cells)) (rowsOf columns rows (cellsOf vs ls)) ≡ cut columns rows vs
+rows-cut columns zero vs ls h = refl
+rows-cut columns (suc rows) vs ls h =
+    ap₂ _∷_ (values-front (work vs ls) columns (omega arith))
+    (ap (λ (l : List Cell). map (λ row. map (λ cell. cell .value) (row .cells)) (rowsOf columns rows l)) (sym (cells-drop columns vs ls))
+    ∙ rows-cut columns rows (drop columns vs) (drop columns ls) (simp length-drop (omega arith)))
 
 module _ (w : Work) (rows columns steps : ℕ) (few : rows ≤ 256) (narrow : columns ≤ 8) (in-values : room ≤ length (w .values)) (in-labels : room ≤ length (w .labels)) where
   abbrev table : Table
@@ -75,18 +94,32 @@ module _ (w : Work) (rows columns steps : ℕ) (few : rows ≤ 256) (narrow : co
   unfolding overs
   over-searched = rw fits-values (ap says (sym (table-over w 0 columns rows 0 (omega (arith, cells-few)))))
 
-  one-after-another : (u v : Verdict) → afterFine (says u) (afterFine (says v) (says fine)) ≡ says (orElse u v)
-  one-after-another fine fine = refl
-  one-after-another fine (refused number row column) = refl
-  one-after-another (refused number row column) v = refl
+  one-after-another : (u v x : Verdict) → afterFine (says u) (afterFine (says v) (says x)) ≡ says (orElse (orElse u v) x)
+  one-after-another fine fine x = refl
+  one-after-another fine (refused number row column) x = refl
+  one-after-another (refused number row column) v x = refl
 
-  module _ (output : List ℤ) (long : 2048 ≤ length output) where
-    can-copy : copies (w .values) 0 (rows * columns) output ≡ true
-    can-copy = rw (le-within 0 (rows * columns) (length (w .values)) (omega (arith, cells-few)), le-leb (rows * columns) (length output) (omega (arith, cells-few)))
+  -- the text written is that of the table
+  text-same : textFrom (w .values) rows columns ≡ tableText table
+  text-same =
+      ap (textOf columns)
+      (sym (ap (λ (m : List Cell). map (λ row. map (λ cell. cell .value) (row .cells)) (rowsOf columns rows m)) (sym (cells-drop 0 (w .values) (w .labels)))
+      ∙ rows-cut columns rows (drop 0 (w .values)) (drop 0 (w .labels)) (simp length-drop (omega (arith, cells-few)))))
 
-    replies : releaseReply w output rows columns ≡ says (checkRelease table)
+  module _ (some : 1 ≤ columns) (output : List ℤ) (long : 2048 ≤ length output) (text : List ℕ) where
+    abbrev fits : Bool
+    fits = leb (length (tableText table)) (length text)
+
+    -- 35, then 36, then 51
+    abbrev verdict : Verdict
+    verdict = orElse (checkRelease table) (refuseIf (not fits) 51 0 0)
+
+    room-replies : roomReply (w .values) output text rows columns ≡ says (refuseIf (not fits) 51 0 0)
+    room-replies = rw (le-leb (rows * columns) (length output) (omega (arith, cells-few)), le-leb 1 columns some, fits-values, text-same)
+
+    replies : releaseReply w output text rows columns ≡ says verdict
     unfolding stages overs checkRelease
-    replies = rw (searched, over-searched, can-copy) (one-after-another stages overs)
+    replies = rw (searched, over-searched, room-replies) (one-after-another stages overs (refuseIf (not fits) 51 0 0))
 
     -- the values of the table, before what is left of the output
     values-out : copied (w .values) 0 (rows * columns) output ≡ written (rowsOut (release table)) output
@@ -95,22 +128,36 @@ module _ (w : Work) (rows columns steps : ℕ) (few : rows ≤ 256) (narrow : co
         let count : length (take (rows * columns) (drop 0 (w .values))) ≡ rows * columns = length-take-le (rows * columns) (drop 0 (w .values)) (simp length-drop (omega (arith, cells-few))) in
         ap₂ (λ (x : List ℤ) (n : ℕ). x ++ drop n output) (sym values-are) (sym count ∙ ap length (sym values-are))
 
-    -- what a verdict at release makes a run answer
-    abbrev answerBy : Verdict → Told
-    answerBy fine = released rows columns
-    answerBy (refused number row column) = refusedState number steps row column
+    -- what a verdict at release makes of a run
+    abbrev outcomeBy : Verdict → Outcome
+    outcomeBy fine = release table
+    outcomeBy (refused number row column) = refuse number steps row column
 
-    abbrev Ends : Outcome → Told → List ℤ → Type 0
-    Ends outcome told after = (told ≡ answerOf outcome) × (after ≡ written (rowsOut outcome) output)
-
-    pub finished : (v : Verdict) {after : List ℤ} → says v ≡ releaseReply w output rows columns → after ≡ outputAfter (says v) (w .values) output rows columns
-        → Ends (finish steps table) (answerBy v) after
-    finished v {after} e f = subst (λ (u : Verdict). Ends (ending u steps (record { outcome = release table; trace = [] }) .outcome) (answerBy v) after) (says-is (e ∙ replies)) (by-verdict v f)
+    outcome-is : outcomeBy verdict ≡ withText steps (length text) (finish steps table)
+    outcome-is = by-verdict (checkRelease table) fits refl
       where
-        by-verdict : (v : Verdict) → after ≡ outputAfter (says v) (w .values) output rows columns
-            → Ends (ending v steps (record { outcome = release table; trace = [] }) .outcome) (answerBy v) after
-        by-verdict fine f = (ap (λ (n : ℕ). released n columns) (sym (rows-length columns rows (drop 0 (cellsIn w)))), f ∙ values-out)
-        by-verdict (refused number row column) f = (refl, f)
+        by-verdict : (v : Verdict) (b : Bool) → fits ≡ b
+            → outcomeBy (orElse v (refuseIf (not b) 51 0 0)) ≡ withText steps (length text) (ending v steps (record { outcome = release table; trace = [] }) .outcome)
+        by-verdict fine true e = rw e
+        by-verdict fine false e = rw e
+        by-verdict (refused number row column) b e = refl
 
-    pub always-fits : unfit ≡ releaseReply w output rows columns → ⊥
+    pub finished : {answer : ReleaseAnswer} {output₁ : List ℤ} {text₁ : List ℕ} (v : Verdict) → releaseSays answer ≡ says v
+        → Releases (releaseReply w output text rows columns) (w .values) output text rows columns answer output₁ text₁
+        → Ends (withText steps (length text) (finish steps table)) output text (answerBy rows columns steps v (bytesTold answer)) output₁ text₁
+    finished {answer} {output₁} {text₁} v e r =
+        let so : releaseReply w output text rows columns ≡ says v = sym (r .says-so) ∙ e in
+        subst (λ (o : Outcome). Ends o output text (answerBy rows columns steps v (bytesTold answer)) output₁ text₁)
+        (ap outcomeBy (says-is (sym so ∙ replies)) ∙ outcome-is) (by-verdict v (rw so at (r .bytes-are)) (rw so at (r .output-is)) (rw so at (r .text-is)))
+      where
+        by-verdict : (v : Verdict) → bytesTold answer ≡ bytesAfter (says v) (w .values) rows columns → output₁ ≡ outputAfter (says v) (w .values) output rows columns
+            → text₁ ≡ exportAfter (says v) (w .values) text rows columns → Ends (outcomeBy v) output text (answerBy rows columns steps v (bytesTold answer)) output₁ text₁
+        by-verdict fine b o t = record {
+          told-is = ap₂ (λ (n m : ℕ). released n columns m) (sym (rows-length columns rows (drop 0 (cellsIn w)))) (b ∙ ap length text-same);
+          output-is = o ∙ values-out;
+          text-is = t ∙ ap (λ (l : List ℕ). written l text) text-same;
+        }
+        by-verdict (refused number row column) b o t = record { told-is = refl; output-is = o; text-is = t }
+
+    pub always-fits : unfit ≡ releaseReply w output text rows columns → ⊥
     always-fits e = never-unfit (e ∙ replies)

@@ -13,18 +13,20 @@ use Rattle.input.specs.Answers.{inputTells}
 use Rattle.input.specs.Verdict.{rejected}
 use Rattle.input.specs.declared.InputRefusal.{InputRefusal}
 use Rattle.demands.specs.Answers.{Told, refusedInput, refusedState}
-use Rattle.demands.specs.Given.{Given, checkGiven}
-use Rattle.demands.specs.Lent.{lent, enough}
-use Rattle.demands.specs.Monitor.{evaluation, answerOf, rowsOut, written, ended, monitor}
+use Rattle.demands.specs.Given.{Given, checkGiven, planGiven}
+use Rattle.demands.specs.Lent.{Lent, lent, enough}
+use Rattle.demands.specs.Monitor.{evaluation, withText, runOutcome, ended, monitor}
+use Rattle.evaluator.specs.promises.Ends.{Ends}
 use Rattle.memory.specs.Refusals.{refusalTells}
 use Rattle.memory.specs.declared.Refusal.{Refusal}
 use Rattle.memory.specs.promises.Stack.{tableIn}
-use Rattle.plan.specs.Evaluate.{Outcome, refuse}
+use Rattle.plan.specs.Evaluate.{refuse}
 use Rattle.tally.specs.Zeros.{filled}
 use Rattle.tally.specs.promises.Zeros.{clears}
 use Rattle.walk.specs.declared.WalkAnswer.the-variants.{Refused, Finished}
 use Rattle.walk.specs.promises.Walk.{roomIn, finish, Stepped, Walked}
 use Rattle.input.proofs.Numbers.{input-tells}
+use Rattle.demands.proofs.Columns.{top-some}
 use Rattle.demands.proofs.Runs.{short-keeps-all as short-run, input-run, begun-run}
 use Rattle.memory.proofs.Finish.{verdicts}
 use Rattle.tally.proofs.Laws.{filled-is}
@@ -39,55 +41,56 @@ swap false b c = refl
 filled-same : {A : Type 0} (count : ℕ) (x : A) (old new : List A) → drop count new ≡ drop count old → filled count x new ≡ filled count x old
 filled-same {A} count x old new e = filled-is count x new ∙ ap (λ (l : List A). replicate count x ++ l) e ∙ sym (filled-is count x old)
 
--- the evaluation, as the answer and the output have it, after a walk
-pub record Evaluated (given : Given) (w : Work) (o : List ℤ) (t : List ℕ) (told : Told) (w₁ : Work) (o₁ : List ℤ) (t₁ : List ℕ) : Type 0 where
+-- what a run comes to, as the answer, the output and the text have it, after a walk
+pub record Evaluated (given : Given) (w : Work) (o : List ℤ) (t x : List ℕ) (told : Told) (w₁ : Work) (o₁ : List ℤ) (t₁ x₁ : List ℕ) : Type 0 where
   pub stepped : Stepped given w t w₁ t₁
-  pub told-is : told ≡ answerOf (evaluation given .outcome)
-  pub output-is : o₁ ≡ written (rowsOut (evaluation given .outcome)) o
+  pub ends : Ends (withText (length (planGiven given)) (length x) (evaluation given .outcome)) o x told o₁ x₁
 
-module _ (given : Given) (v : List ℤ) (l : List ℕ) (o : List ℤ) (t : List ℕ) where
+module _ (given : Given) (v : List ℤ) (l : List ℕ) (o : List ℤ) (t x : List ℕ) where
+  abbrev lends : Lent
+  lends = lent v l o t x
+
   -- a run needs what a walk needs, and an output
-  enough-is : enough (lent v l o t) ≡ roomIn (work v l) t && leb 2048 (length o)
+  enough-is : enough lends ≡ roomIn (work v l) t && leb 2048 (length o)
   enough-is = swap (leb 8192 (length v) && leb 8192 (length l)) (leb 2048 (length o)) (leb 256 (length t))
 
-  pub output-short : length o < 2048 → ended (refusedState 1 0 0 0) (lent v l o t) ≡ monitor given (lent v l o t)
-  output-short h = sym (short-run given (lent v l o t) (enough-is ∙ rw (lt-leb 2048 (length o) h) (and-false (roomIn (work v l) t))))
+  pub output-short : length o < 2048 → ended (refusedState 1 0 0 0) lends ≡ monitor given lends
+  output-short h = sym (short-run given lends (enough-is ∙ rw (lt-leb 2048 (length o) h) (and-false (roomIn (work v l) t))))
 
   module _ (long : 2048 ≤ length o) {w₁ : Work} {t₁ : List ℕ} where
     -- the slices are as they were
-    unchanged : (told : Told) → w₁ ≡ work v l → t₁ ≡ t → ended told (lent (w₁ .values) (w₁ .labels) o t₁) ≡ ended told (lent v l o t)
-    unchanged told = ap₂ (λ (w : Work) (t : List ℕ). ended told (lent (w .values) (w .labels) o t))
+    unchanged : (told : Told) → w₁ ≡ work v l → t₁ ≡ t → ended told (lent (w₁ .values) (w₁ .labels) o t₁ x) ≡ ended told lends
+    unchanged told = ap₂ (λ (w : Work) (t : List ℕ). ended told (lent (w .values) (w .labels) o t x))
 
-    pub work-short : (roomIn (work v l) t ≡ false) × (w₁ ≡ work v l) × (t₁ ≡ t) → ended (refusedState 1 0 0 0) (lent (w₁ .values) (w₁ .labels) o t₁) ≡ monitor given (lent v l o t)
-    work-short s = unchanged (refusedState 1 0 0 0) (s .1) (s .2) ∙ sym (short-run given (lent v l o t) (enough-is ∙ rw (s .0)))
+    pub work-short : (roomIn (work v l) t ≡ false) × (w₁ ≡ work v l) × (t₁ ≡ t) → ended (refusedState 1 0 0 0) (lent (w₁ .values) (w₁ .labels) o t₁ x) ≡ monitor given lends
+    work-short s = unchanged (refusedState 1 0 0 0) (s .1) (s .2) ∙ sym (short-run given lends (enough-is ∙ rw (s .0)))
 
     pub input-refused : (refusal : InputRefusal) → (roomIn (work v l) t ≡ true) × (inputTells rejected refusal ≡ checkGiven given) × (w₁ ≡ work v l) × (t₁ ≡ t)
-        → ended (inputTells refusedInput refusal) (lent (w₁ .values) (w₁ .labels) o t₁) ≡ monitor given (lent v l o t)
+        → ended (inputTells refusedInput refusal) (lent (w₁ .values) (w₁ .labels) o t₁ x) ≡ monitor given lends
     input-refused refusal s =
         let n = input-tells refusal in
-        let enough-so : enough (lent v l o t) ≡ true = enough-is ∙ rw (s .0, le-leb 2048 (length o) long) in
+        let enough-so : enough lends ≡ true = enough-is ∙ rw (s .0, le-leb 2048 (length o) long) in
         unchanged (inputTells refusedInput refusal) (s .2) (s .3)
-        ∙ ap (λ (told : Told). ended told (lent v l o t)) (n .tells refusedInput)
-        ∙ sym (input-run given (lent v l o t) (n .number) (n .place) enough-so (sym (s .1) ∙ n .tells rejected))
+        ∙ ap (λ (told : Told). ended told lends) (n .tells refusedInput)
+        ∙ sym (input-run given lends (n .number) (n .place) enough-so (sym (s .1) ∙ n .tells rejected))
 
     pub step-refused : (step : ℕ) (refusal : Refusal) → Walked given (work v l) t (Refused step refusal) w₁ t₁
-        → Evaluated given (work v l) o t (refusalTells (λ number row column. refusedState number step row column) refusal) w₁ o t₁
+        → Evaluated given (work v l) o t x (refusalTells (λ number row column. refusedState number step row column) refusal) w₁ o t₁ x
     step-refused step refusal s =
         let n = verdicts refusal in
         let outcome = s .1 ∙ n .tells (λ number row column. refuse number step row column) in
         record {
           stepped = s .0;
-          told-is = n .tells (λ number row column. refusedState number step row column) ∙ ap answerOf (sym outcome);
-          output-is = ap (λ (r : Outcome). written (rowsOut r) o) (sym outcome);
+          ends = rw outcome (record { told-is = n .tells (λ number row column. refusedState number step row column); output-is = refl; text-is = refl });
         }
 
-    pub steps-finished : (steps rows columns : ℕ) {told : Told} {o₁ : List ℤ} → Walked given (work v l) t (Finished steps rows columns) w₁ t₁
-        → told ≡ answerOf (finish steps (tableIn w₁ 0 columns rows)) → o₁ ≡ written (rowsOut (finish steps (tableIn w₁ 0 columns rows))) o → Evaluated given (work v l) o t told w₁ o₁ t₁
-    steps-finished steps rows columns s et eo = record {
-      stepped = s .0;
-      told-is = et ∙ ap answerOf (sym (s .1 .outcome));
-      output-is = eo ∙ ap (λ (r : Outcome). written (rowsOut r) o) (sym (s .1 .outcome));
-    }
+    -- the table that is left has a column
+    pub some-columns : {steps rows columns : ℕ} → Walked given (work v l) t (Finished steps rows columns) w₁ t₁ → 1 ≤ columns
+    some-columns s = rw (s .1 .table-is) at (top-some given (s .0 .accepted-is))
+
+    pub steps-finished : (steps rows columns : ℕ) {told : Told} {o₁ : List ℤ} {x₁ : List ℕ} → Walked given (work v l) t (Finished steps rows columns) w₁ t₁
+        → Ends (withText steps (length x) (finish steps (tableIn w₁ 0 columns rows))) o x told o₁ x₁ → Evaluated given (work v l) o t x told w₁ o₁ t₁ x₁
+    steps-finished steps rows columns s e = record { stepped = s .0; ends = rw (← s .1 .all-taken, s .1 .outcome) e }
 
     -- what a walk needs is still there
     pub still-long : Stepped given (work v l) t w₁ t₁ → (room ≤ length (w₁ .values)) × (room ≤ length (w₁ .labels))
@@ -97,15 +100,19 @@ module _ (given : Given) (v : List ℤ) (l : List ℕ) (o : List ℤ) (t : List 
         (omega (arith, leb-true room (length v) (b .0), s .kept .as-many-values), omega (arith, leb-true room (length l) (b .1), s .kept .as-many-labels))
 
     -- the evaluation, and then zeros
-    pub run-begun : {told : Told} {o₁ : List ℤ} {v₂ : List ℤ} {l₂ : List ℕ} {cleared : Bool} → Evaluated given (work v l) o t told w₁ o₁ t₁ → cleared ≡ clears (w₁ .values) (w₁ .labels)
-        → v₂ ≡ cond cleared (filled 8192 (pos 0) (w₁ .values)) (w₁ .values) → l₂ ≡ cond cleared (filled 8192 0 (w₁ .labels)) (w₁ .labels)
-        → ended told (lent v₂ l₂ o₁ t₁) ≡ monitor given (lent v l o t)
+    pub run-begun : {told : Told} {o₁ : List ℤ} {x₁ : List ℕ} {v₂ : List ℤ} {l₂ : List ℕ} {cleared : Bool} → Evaluated given (work v l) o t x told w₁ o₁ t₁ x₁
+        → cleared ≡ clears (w₁ .values) (w₁ .labels) → v₂ ≡ cond cleared (filled 8192 (pos 0) (w₁ .values)) (w₁ .values)
+        → l₂ ≡ cond cleared (filled 8192 0 (w₁ .labels)) (w₁ .labels) → ended told (lent v₂ l₂ o₁ t₁ x₁) ≡ monitor given lends
+    unfolding runOutcome
     run-begun {cleared = cleared} e c cv cl =
         let s = e .stepped in
         let n = still-long s in
         let yes : cleared ≡ true = c ∙ rw (le-leb 8192 (length (w₁ .values)) (n .0), le-leb 8192 (length (w₁ .labels)) (n .1)) in
         let vs = cv ∙ ap (λ (b : Bool). cond b (filled 8192 (pos 0) (w₁ .values)) (w₁ .values)) yes ∙ filled-same 8192 (pos 0) v (w₁ .values) (s .kept .values-past) in
         let ls = cl ∙ ap (λ (b : Bool). cond b (filled 8192 0 (w₁ .labels)) (w₁ .labels)) yes ∙ filled-same 8192 0 l (w₁ .labels) (s .kept .labels-past) in
-        let long-is : enough (lent v l o t) ≡ true = enough-is ∙ rw (s .long, le-leb 2048 (length o) long) in
-        (λ i. record { answer = e .told-is i; left = record { values = vs i; labels = ls i; output = e .output-is i; trace = s .traced i } })
-        ∙ sym (begun-run given (lent v l o t) (record { long = long-is; accepted-is = s .accepted-is }))
+        let long-is : enough lends ≡ true = enough-is ∙ rw (s .long, le-leb 2048 (length o) long) in
+        (λ i. record {
+          answer = e .ends .told-is i;
+          left = record { values = vs i; labels = ls i; output = e .ends .output-is i; trace = s .traced i; text = e .ends .text-is i };
+        })
+        ∙ sym (begun-run given lends (record { long = long-is; accepted-is = s .accepted-is }))

@@ -1,4 +1,4 @@
--- Document 01's number and place of each refusal, and the rows and columns of a release.
+-- The number and the place of each refusal, and the rows and columns of a release and the bytes of its text.
 use Rattle.input.specs.Answers.{inputTells}
 use Rattle.demands.specs.Answers.{Told, released, refusedInput, refusedState}
 use Rattle.evaluator.specs.declared.RunAnswer.{RunAnswer}
@@ -7,9 +7,10 @@ use Rattle.memory.specs.Refusals.{refusalTells}
 
 -- what each answer of a run says
 abbrev pub runSays : RunAnswer → Told
-runSays (answer.Released rows columns) = released rows columns
+runSays (answer.Released rows columns bytes) = released rows columns bytes
 runSays answer.TooShort = refusedState 1 0 0 0
 runSays (answer.Input refusal) = inputTells refusedInput refusal
 runSays (answer.Step step refusal) = refusalTells (λ number row column. refusedState number step row column) refusal
 runSays (answer.StageLeft step row column) = refusedState 35 step row column
 runSays (answer.Over step row column) = refusedState 36 step row column
+runSays (answer.NoRoom steps) = refusedState 51 steps 0 0

@@ -5,27 +5,30 @@ ghost use lib.ListN.{length};
 ghost use Rattle.cells.specs.promises.Work.{work, room};
 ghost use Rattle.demands.specs.Given.{given};
 ghost use Rattle.demands.specs.Lent.{lent};
-ghost use Rattle.demands.specs.Monitor.{answerOf, rowsOut, written, ended, monitor};
+ghost use Rattle.demands.specs.Monitor.{withText, ended, monitor};
 ghost use Rattle.evaluator.specs.Answers.{runSays};
+ghost use Rattle.evaluator.specs.promises.Ends.{Ends};
 ghost use Rattle.memory.specs.promises.Stack.{tableIn};
 ghost use Rattle.walk.specs.promises.Walk.{finish};
 use super::RunAnswer;
 use release::ReleaseAnswer;
 use walk::WalkAnswer;
 
-// Evaluates a container's plan over the lent work slices. A release writes its rows to the output's start; a release and a refusal of the
-// evaluation write the lines of the finished steps to the trace's start, and leave the first 8,192 elements of both work slices zero. Where
-// a slice is too short or the container is refused, nothing lent changes.
+// Evaluates a container's plan over the lent work slices. A release writes its rows to the output's start and its text to the start of its
+// slice; a release and a refusal of the evaluation write the lines of the finished steps to the trace's start, and leave the first 8,192 elements of
+// both work slices zero. Where a slice is too short or the container is refused, nothing lent changes.
 pub fn run(
     container: &[u8],
     values: &mut [i64],
     labels: &mut [u32],
     output: &mut [i64],
     trace: &mut [u32],
+    text: &mut [u8],
 ) -> RunAnswer
-    ensures { λ r. ⌜ ended (runSays r) (lent (now (values .exit)) (now (labels .exit)) (now (output .exit)) (now (trace .exit)))
+    ensures { λ r. ⌜ ended (runSays r)
+        (lent (now (values .exit)) (now (labels .exit)) (now (output .exit)) (now (trace .exit)) (now (text .exit)))
         ≡ monitor (given (now (container .entry)))
-        (lent (now (values .entry)) (now (labels .entry)) (now (output .entry)) (now (trace .entry))) ⌝ }
+        (lent (now (values .entry)) (now (labels .entry)) (now (output .entry)) (now (trace .entry)) (now (text .entry))) ⌝ }
 {
     if output.len() < 2048 {
         return RunAnswer::TooShort;
@@ -39,7 +42,7 @@ pub fn run(
         }
         WalkAnswer::Refused(step, refusal) => RunAnswer::Step(step, refusal),
         WalkAnswer::Finished(steps, rows, columns) => {
-            released(values, labels, output, steps, rows, columns)
+            released(values, labels, output, text, steps, rows, columns)
         }
     };
     tally::clear_memory(values, labels);
@@ -51,20 +54,21 @@ fn released(
     values: &[i64],
     labels: &[u32],
     output: &mut [i64],
+    text: &mut [u8],
     steps: usize,
     rows: usize,
     columns: usize,
 ) -> RunAnswer
-    requires { ⌜ (rows ≤ 256) × (columns ≤ 8) × (room ≤ length (now values)) × (room ≤ length (now labels))
+    requires { ⌜ (rows ≤ 256) × (1 ≤ columns) × (columns ≤ 8) × (room ≤ length (now values)) × (room ≤ length (now labels))
         × (2048 ≤ length (now output)) ⌝ }
-    ensures { λ r. ⌜ runSays r ≡ answerOf (finish steps (tableIn (work (now (values .entry)) (now (labels .entry))) 0 columns rows)) ⌝ }
-    ensures { λ _. ⌜ now (output .exit)
-        ≡ written (rowsOut (finish steps (tableIn (work (now (values .entry)) (now (labels .entry))) 0 columns rows))) (now (output .entry)) ⌝ }
+    ensures { λ r. ⌜ Ends (withText steps (length (now (text .entry))) (finish steps (tableIn (work (now (values .entry)) (now (labels .entry))) 0 columns rows)))
+        (now (output .entry)) (now (text .entry)) (runSays r) (now (output .exit)) (now (text .exit)) ⌝ }
 {
-    match release::release(values, labels, output, rows, columns) {
-        ReleaseAnswer::Released => RunAnswer::Released(rows, columns),
+    match release::release(values, labels, output, text, rows, columns) {
+        ReleaseAnswer::Released(bytes) => RunAnswer::Released(rows, columns, bytes),
         ReleaseAnswer::StageLeft(row, column) => RunAnswer::StageLeft(steps, row, column),
         ReleaseAnswer::Over(row, column) => RunAnswer::Over(steps, row, column),
+        ReleaseAnswer::NoRoom => RunAnswer::NoRoom(steps),
         ReleaseAnswer::DoesNotFit => never(),
     }
 }

@@ -1,7 +1,7 @@
 -- The reply of a release, search by search. Assumes nothing.
 use Prim.Native.Nat.{ℕ, _*_, _≤_}
-use mathlib.Core.Path.{_≡_, refl, sym, ap, _∙_}
-use mathlib.Core.Bool.{Bool, true, false, cond, _&&_, and-eq-true-iff}
+use mathlib.Core.Path.{_≡_, refl, sym, ap, subst, _∙_}
+use mathlib.Core.Bool.{Bool, true, false, _&&_, and-eq-true-iff}
 use mathlib.Core.List.{List}
 use native.Mathlib.Nat.{zero-add, mul-le-mul}
 use native.Mathlib.Omega.{arith}
@@ -14,11 +14,12 @@ use Rattle.cells.specs.promises.Cells.{within}
 use Rattle.cells.specs.promises.Search.{Reply, says, unfit, tableWithin, placeSays, notClearAt}
 use Rattle.cells.specs.promises.Work.{Work}
 use Rattle.plan.specs.Verdict.{fine, refused}
-use Rattle.release.specs.promises.Release.{afterFine, releaseReply}
-use Rattle.tally.specs.promises.Output.{copies}
+use Rattle.release.specs.declared.ReleaseAnswer.{ReleaseAnswer}
+use Rattle.release.specs.declared.ReleaseAnswer.the-variants.{StageLeft, Over, DoesNotFit}
+use Rattle.release.specs.promises.Release.{releaseSays, afterFine, roomReply, releaseReply, Releases}
 use Rattle.tally.specs.promises.Over.{firstOverAt}
 
-module _ (w : Work) (output : List ℤ) (rows columns : ℕ) where
+module _ (w : Work) (output : List ℤ) (text : List ℕ) (rows columns : ℕ) where
   abbrev stages : Reply
   stages = notClearAt 35 0 (w .labels) 0 rows columns 255
 
@@ -26,7 +27,10 @@ module _ (w : Work) (output : List ℤ) (rows columns : ℕ) where
   overs = firstOverAt 0 (w .values) 0 rows columns
 
   abbrev room : Reply
-  room = cond (copies (w .values) 0 (rows * columns) output) (says fine) unfit
+  room = roomReply (w .values) output text rows columns
+
+  abbrev Promised : Reply → ReleaseAnswer → List ℤ → List ℕ → Type 0
+  Promised reply = Releases reply (w .values) output text rows columns
 
   -- a table that is searched is small
   pub few-cells : placeSays 35 0 place.Nowhere ≡ stages → rows * columns ≤ 2048
@@ -40,25 +44,36 @@ module _ (w : Work) (output : List ℤ) (rows columns : ℕ) where
       by-fit false f = let g : says fine ≡ unfit = e ∙ rw f in let z : _≡_ {A = ℕ} 0 1 = cc in absurd (omega arith)
 
   -- the first search ends it
-  pub first-ends : {reply : Reply} → (next : Reply) → reply ≡ stages → afterFine reply next ≡ afterFine stages next
+  first-ends : {reply : Reply} → (next : Reply) → reply ≡ stages → afterFine reply next ≡ afterFine stages next
   first-ends next e = ap (λ (r : Reply). afterFine r next) e
 
-  pub stage-left : (row column : ℕ) → placeSays 35 0 (place.At row column) ≡ stages → says (refused 35 row column) ≡ releaseReply w output rows columns
-  stage-left row column e = ap (λ (n : ℕ). says (refused 35 n column)) (sym (zero-add row)) ∙ first-ends (afterFine overs room) e
+  abbrev whole : Reply
+  whole = releaseReply w output text rows columns
 
-  pub labels-unfit : placeSays 35 0 place.DoesNotFit ≡ stages → unfit ≡ releaseReply w output rows columns
-  labels-unfit e = first-ends (afterFine overs room) e
+  -- an answer that says the reply
+  as-said : {reply : Reply} {answer : ReleaseAnswer} {o : List ℤ} {t : List ℕ} → Promised reply answer o t → reply ≡ whole → Promised whole answer o t
+  as-said {answer = answer} {o} {t} p e = subst (λ (r : Reply). Promised r answer o t) e p
+
+  pub stage-left : (row column : ℕ) → placeSays 35 0 (place.At row column) ≡ stages → Promised whole (StageLeft row column) output text
+  stage-left row column e =
+      as-said (record { says-so = refl; bytes-are = refl; output-is = refl; text-is = refl })
+      (ap (λ (n : ℕ). says (refused 35 n column)) (sym (zero-add row)) ∙ first-ends (afterFine overs room) e)
+
+  pub labels-unfit : placeSays 35 0 place.DoesNotFit ≡ stages → Promised whole DoesNotFit output text
+  labels-unfit e = as-said (record { says-so = refl; bytes-are = refl; output-is = refl; text-is = refl }) (first-ends (afterFine overs room) e)
 
   module _ (clear : placeSays 35 0 place.Nowhere ≡ stages) where
-    -- the second search ends it, or the room for the values
-    second-ends : {reply : Reply} → reply ≡ overs → afterFine reply room ≡ releaseReply w output rows columns
+    -- the second search ends it, or the room
+    second-ends : {reply : Reply} → reply ≡ overs → afterFine reply room ≡ whole
     second-ends e = ap (λ (r : Reply). afterFine r room) e ∙ first-ends (afterFine overs room) clear
 
-    pub over-left : (row column : ℕ) → placeSays 36 0 (place.At row column) ≡ overs → says (refused 36 row column) ≡ releaseReply w output rows columns
-    over-left row column e = ap (λ (n : ℕ). says (refused 36 n column)) (sym (zero-add row)) ∙ second-ends e
+    pub over-left : (row column : ℕ) → placeSays 36 0 (place.At row column) ≡ overs → Promised whole (Over row column) output text
+    over-left row column e =
+        as-said (record { says-so = refl; bytes-are = refl; output-is = refl; text-is = refl })
+        (ap (λ (n : ℕ). says (refused 36 n column)) (sym (zero-add row)) ∙ second-ends e)
 
-    pub values-unfit : placeSays 36 0 place.DoesNotFit ≡ overs → unfit ≡ releaseReply w output rows columns
-    values-unfit e = second-ends e
+    pub values-unfit : placeSays 36 0 place.DoesNotFit ≡ overs → Promised whole DoesNotFit output text
+    values-unfit e = as-said (record { says-so = refl; bytes-are = refl; output-is = refl; text-is = refl }) (second-ends e)
 
-    pub last-ends : (copied : Bool) → placeSays 36 0 place.Nowhere ≡ overs → copied ≡ copies (w .values) 0 (rows * columns) output → cond copied (says fine) unfit ≡ releaseReply w output rows columns
-    last-ends copied e c = ap (λ (b : Bool). cond b (says fine) unfit) c ∙ second-ends e
+    pub then-written : {answer : ReleaseAnswer} {o : List ℤ} {t : List ℕ} → placeSays 36 0 place.Nowhere ≡ overs → Promised room answer o t → Promised whole answer o t
+    then-written e p = as-said p (second-ends e)

@@ -1,4 +1,5 @@
-// The lines that stand for an answer, on standard output.
+// What stands for an answer: its lines, or the text of a release.
+use libc::STDERR_FILENO;
 use libc::STDOUT_FILENO;
 use std::num::wrapping_add_usize;
 use value::pattern;
@@ -9,28 +10,41 @@ pub fn print(output: &[i64], trace: &[u32], answer: &[u64; 4], steps: usize) {
     if number == 0 {
         finished(trace, steps);
         released(output, answer[1] as usize, answer[2] as usize);
-    } else if (11 <= number) & (number < 31) {
-        refused_input(number, answer[1]);
-    } else {
+        return;
+    }
+    if 31 <= number {
         finished(trace, answer[1] as usize);
-        refused(number, answer[1], answer[2], answer[3]);
+    }
+    refused(STDOUT_FILENO, answer);
+}
+
+// The text of a release, on standard output; the line of a refusal, on standard error.
+pub fn export(bytes: &[u8], answer: &[u64; 4]) {
+    if answer[0] == 0 {
+        beginning(bytes, answer[3] as usize);
+    } else {
+        refused(STDERR_FILENO, answer);
     }
 }
 
-fn refused_input(number: u64, place: u64) {
-    text(b"X");
-    decimal(number);
-    decimal(place);
-    text(b"\n");
+// So many bytes of a text.
+fn beginning(bytes: &[u8], length: usize) {
+    if length <= bytes.len() {
+        text(STDOUT_FILENO, &bytes[..length]);
+    }
 }
 
-fn refused(number: u64, step: u64, row: u64, column: u64) {
-    text(b"X");
-    decimal(number);
-    decimal(step);
-    decimal(row);
-    decimal(column);
-    text(b"\n");
+// The line of a refusal: a place of the input is one number, any other three.
+fn refused(to: i32, answer: &[u64; 4]) {
+    let number = answer[0];
+    text(to, b"X");
+    decimal(to, number);
+    decimal(to, answer[1]);
+    if !((11 <= number) & (number < 31)) {
+        decimal(to, answer[2]);
+        decimal(to, answer[3]);
+    }
+    text(to, b"\n");
 }
 
 // The lines of the first steps.
@@ -46,13 +60,13 @@ fn step_line(trace: &[u32], step: usize) {
     if trace.len() / 4 <= step {
         return;
     }
-    text(b"S");
-    decimal(step as u64);
+    text(STDOUT_FILENO, b"S");
+    decimal(STDOUT_FILENO, step as u64);
     small(trace[4 * step]);
     small(trace[4 * step + 1]);
     small(trace[4 * step + 2]);
     small(trace[4 * step + 3]);
-    text(b"\n");
+    text(STDOUT_FILENO, b"\n");
 }
 
 // The released rows, row by row from the output's start.
@@ -60,9 +74,9 @@ fn released(output: &[i64], rows: usize, columns: usize) {
     let mut at = 0;
     let mut row = 0;
     while row < rows {
-        text(b"R");
+        text(STDOUT_FILENO, b"R");
         row_values(output, at, columns);
-        text(b"\n");
+        text(STDOUT_FILENO, b"\n");
         at = wrapping_add_usize(at, columns);
         row += 1;
     }
@@ -85,22 +99,22 @@ fn value_at(output: &[i64], place: usize) {
 
 fn signed(value: i64) {
     if pattern::negative(value) {
-        text(b" -");
+        text(STDOUT_FILENO, b" -");
         io::print_decimal(STDOUT_FILENO, pattern::magnitude(value));
         return;
     }
-    decimal(pattern::magnitude(value));
+    decimal(STDOUT_FILENO, pattern::magnitude(value));
 }
 
 fn small(number: u32) {
-    decimal(number as u64);
+    decimal(STDOUT_FILENO, number as u64);
 }
 
-fn decimal(number: u64) {
-    text(b" ");
-    io::print_decimal(STDOUT_FILENO, number);
+fn decimal(to: i32, number: u64) {
+    text(to, b" ");
+    io::print_decimal(to, number);
 }
 
-fn text(bytes: &[u8]) {
-    io::write_all(STDOUT_FILENO, bytes);
+fn text(to: i32, bytes: &[u8]) {
+    io::write_all(to, bytes);
 }

@@ -1,0 +1,12 @@
+-- `csv_reader::spot::is_digit` meets its contract. Assumes nothing.
+use mathlib.Core.Path.{refl}
+use Rattle.csv_reader.specs.Reader.{isDigit}
+use Rattle.csv_reader.proofs.spot.is_digit.Statement.{statement}
+use Rattle.csv_reader.proofs.spot.is_digit.Tie as tie
+
+returns : tie.Need-returns
+unfolding isDigit
+returns c = refl
+
+pub is-digit-spec : {M : Type 1} → statement M
+is-digit-spec = tie.close (tie.spec returns)

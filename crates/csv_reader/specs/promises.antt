@@ -1,0 +1,2 @@
+-- `Reading`: what the function that reads a text answers.
+pub mod Reading

@@ -1,0 +1,2 @@
+-- A table's comma-separated text. This file is what a reader must believe.
+pub mod Text

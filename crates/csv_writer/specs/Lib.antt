@@ -1,0 +1,2 @@
+-- The writer of a table's text. Nothing here is to be believed: `promises` has what the crates promise one another.
+pub mod promises

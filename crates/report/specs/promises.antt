@@ -1,0 +1,2 @@
+-- `Number`: the number that a report answers.
+pub mod Number
