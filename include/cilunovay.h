@@ -10,8 +10,8 @@
  * Each slice is lent as a pointer and a number of elements. The caller owes, and
  * nothing tests: a pointer is not null, also where the number is 0, is aligned
  * for its type, and points to that many elements; no slice overlaps another; and
- * until the call returns nobody else writes the container or touches the other
- * slices.
+ * until the call returns nobody else writes the container or the draws or touches
+ * the other slices.
  */
 #ifndef CILUNOVAY_H
 #define CILUNOVAY_H
@@ -32,11 +32,14 @@
 /* The longest container, in bytes. A longer slice is refused with 11. */
 #define CILUNOVAY_CONTAINER 65536
 
+/* No plan uses more draws than these: at most 63 steps NOISE, of 256 rows each. */
+#define CILUNOVAY_DRAWS 16128
+
 /* The numbers that both of these return and write to answer[0]; docs/REFUSALS.md
  * says what causes each and what to do. */
 #define CILUNOVAY_RELEASED 0 /* cilunovay_check: accepted */
 
-/* A lent slice is too short, other than that of the text. */
+/* A slice lent for writing is too short, other than that of the text. */
 #define CILUNOVAY_TOO_SHORT 1
 
 /* Refused because of the input; the place is a byte offset in the container. */
@@ -52,11 +55,12 @@
 
 /* Refused because of the state; the place is step, row and column. */
 #define CILUNOVAY_NOT_CLEAR 31         /* a FILTER operand, JOIN key or GROUP key has a label */
-#define CILUNOVAY_FORBIDDEN 32         /* APPLY or GROUP forbidden by a label */
+#define CILUNOVAY_FORBIDDEN 32         /* APPLY, GROUP or NOISE forbidden by a label */
 #define CILUNOVAY_OPERAND_NOT_CLEAR 33 /* APPLY's second operand has a label */
 #define CILUNOVAY_TOO_MANY 34          /* UNION or JOIN would make more than 256 rows */
 #define CILUNOVAY_STAGE_LEFT 35        /* a cell of the last table has a stage left */
 #define CILUNOVAY_OVER 36              /* a cell of the last table is OVER */
+#define CILUNOVAY_NO_DRAW 37           /* no draw is left for a row of NOISE */
 
 /* Refused because of the text; the place is the number of steps, 0 and 0. */
 #define CILUNOVAY_NO_ROOM 51 /* the slice lent for the text is shorter than the text */
@@ -75,7 +79,7 @@ extern "C" {
  *   1, 0, 0, 0                  values, labels, output or trace is too short; this
  *                               is tested before the container is read
  *   11 to 19, offset, 0, 0      refused because of the input
- *   31 to 36, step, row, column refused because of the state
+ *   31 to 37, step, row, column refused because of the state
  *   51, steps, 0, 0             refused because text is shorter than the table's
  *                               text; this is tested last, where the table would
  *                               be released otherwise; steps are those of the plan
@@ -87,7 +91,15 @@ extern "C" {
  * quoted, and every line ends in CR LF, the last one too. A table of no rows has the
  * line of names alone. No zero byte ends the text: its length is answer[3].
  *
- * After 1 and after 11 to 19 nothing else has changed. After a release, 31 to 36 and
+ * The draws are the numbers that NOISE adds to values: one for each row of the table
+ * that the step reads, in row order and over the whole plan, so that a second NOISE
+ * goes on where the first one stopped. A draw may be any 64-bit number; a sum outside
+ * the range of values is OVER. A run only reads the draws. There may be more than the
+ * plan uses, and none at all; 1 does not test them, and 37 is the answer where a row
+ * finds none left. How they are distributed is the caller's care, and so is that none
+ * is used twice: docs/DRAWS.md.
+ *
+ * After 1 and after 11 to 19 nothing else has changed. After a release, 31 to 37 and
  * 51, trace begins with four numbers for each finished step (kind, rows, columns,
  * stages left; after a release, 35, 36 and 51 every step is finished, and
  * cilunovay_finished below says how many there are), and the first CILUNOVAY_WORK
@@ -105,6 +117,7 @@ extern "C" {
  * the answer, the rows, the text and the trace lines.
  */
 uint32_t cilunovay_run(const uint8_t *container, size_t container_length,
+                       const int64_t *draws, size_t draws_length,
                        int64_t *values, size_t values_length,
                        uint32_t *labels, size_t labels_length,
                        int64_t *output, size_t output_length,
@@ -116,7 +129,7 @@ uint32_t cilunovay_run(const uint8_t *container, size_t container_length,
  * begins with: what lies past them is as it was before the call, lines of an
  * earlier call included, and the trace alone does not tell them apart. Takes the
  * container and the answer of that call, of at least CILUNOVAY_ANSWER elements.
- * After 31 to 36 and after 51 it is the step of the answer; after a release every
+ * After 31 to 37 and after 51 it is the step of the answer; after a release every
  * step of the plan, whose length in bytes, at most 1,024, the container has at its
  * bytes 6 and 7; after 1 and 11 to 19 it is 0. This function is tested and not
  * proved.

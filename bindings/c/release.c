@@ -5,15 +5,22 @@
  *     release FILE..
  *     release --csv < CONTAINER > tally.csv
  *     release --csv FILE > tally.csv
+ *     release --draws DRAWS < CONTAINER
+ *     release --draws DRAWS --csv FILE > tally.csv
  *
  * Prints a line for each finished step, then the released rows or the refusal.
  * Given files, it prints the name of each before its lines.
  *
- * With --csv, which stands before the file, it prints the released table as
- * comma-separated text and nothing else. Of a refusal it prints nothing, and the line
- * of the refusal goes to standard error.
+ * With --csv it prints the released table as comma-separated text and nothing else.
+ * Of a refusal it prints nothing, and the line of the refusal goes to standard error.
  *
- * A word that begins with -- is no file; ./--name is one.
+ * With --draws it lends the run the numbers of the file DRAWS, which NOISE adds to
+ * values: one to a line, each from -2^63 to 2^63 - 1, in at most 19 decimal digits.
+ * Without it there are none.
+ *
+ * Both stand before the file, in either order, and with either there is one container
+ * at most: draws are never used twice. A word that begins with -- is no file; ./--name
+ * is one.
  *
  * Exit status: 0 every container is released; 1 one is refused; 2 something could
  * not be read or written, or the words are wrong, and then nothing that was printed
@@ -32,6 +39,8 @@ enum { RELEASED = 0, REFUSED = 1, BROKEN = 2 };
 
 /* One byte more than the longest container, so that a longer one is refused. */
 static uint8_t container[CILUNOVAY_CONTAINER + 1];
+static int64_t draws[CILUNOVAY_DRAWS]; /* no plan uses more */
+static size_t draws_length;
 static int64_t values[CILUNOVAY_WORK];
 static uint32_t labels[CILUNOVAY_WORK];
 static int64_t output[CILUNOVAY_OUTPUT];
@@ -49,7 +58,7 @@ static void fail(const char *name)
 /* Ends the program where the words are wrong. */
 static void misused(void)
 {
-    fprintf(stderr, "usage: release [FILE..], or release --csv [FILE]\n");
+    fprintf(stderr, "usage: release [FILE..], or release [--csv] [--draws DRAWS] [FILE]\n");
     exit(BROKEN);
 }
 
@@ -82,8 +91,8 @@ static void print_refusal(FILE *file, uint32_t number, const uint64_t *place)
 /* Runs the container that was read; the answer begins with the number. */
 static uint32_t run(size_t length)
 {
-    return cilunovay_run(container, length, values, CILUNOVAY_WORK, labels, CILUNOVAY_WORK, output, CILUNOVAY_OUTPUT,
-                         trace, CILUNOVAY_TRACE, text, CILUNOVAY_TEXT, answer, CILUNOVAY_ANSWER);
+    return cilunovay_run(container, length, draws, draws_length, values, CILUNOVAY_WORK, labels, CILUNOVAY_WORK, output,
+                         CILUNOVAY_OUTPUT, trace, CILUNOVAY_TRACE, text, CILUNOVAY_TEXT, answer, CILUNOVAY_ANSWER);
 }
 
 /* Runs the container that was read, and prints what the monitor answers. */
@@ -122,33 +131,105 @@ static size_t read_whole(FILE *file, const char *name)
     return length;
 }
 
-static size_t read_file(const char *name)
+static FILE *opened(const char *name)
 {
     FILE *file = fopen(name, "rb");
 
     if (file == NULL)
         fail(name);
+    return file;
+}
+
+static size_t read_file(const char *name)
+{
+    FILE *file = opened(name);
     size_t length = read_whole(file, name);
+
     fclose(file);
     return length;
 }
 
+/* The number of a line that begins with this character; the line is read to its end. */
+static int64_t read_number(FILE *file, int character, const char *name, size_t line)
+{
+    int negative = character == '-', digits = 0, fits = 1;
+    int64_t number = 0; /* its negation, where it has no minus: the range reaches further below zero */
+
+    if (negative)
+        character = getc(file);
+    for (; character >= '0' && character <= '9'; character = getc(file)) {
+        int digit = character - '0';
+
+        digits++;
+        fits = fits && digits <= 19 && number >= (INT64_MIN + digit) / 10;
+        number = fits ? number * 10 - digit : 0;
+    }
+    if (ferror(file))
+        fail(name);
+    if (!digits || !fits || (!negative && number == INT64_MIN) || (character != '\n' && character != EOF)) {
+        fprintf(stderr, "release: %s: line %zu is no number from -2^63 to 2^63 - 1\n", name, line);
+        exit(BROKEN);
+    }
+    return negative ? number : -number;
+}
+
+/* Reads the draws; those that no plan can use are not kept. */
+static void read_draws(const char *name)
+{
+    FILE *file = opened(name);
+    int character;
+
+    for (size_t line = 1; (character = getc(file)) != EOF; line++) {
+        int64_t draw = read_number(file, character, name, line);
+
+        if (draws_length < CILUNOVAY_DRAWS)
+            draws[draws_length++] = draw;
+    }
+    if (ferror(file))
+        fail(name);
+    fclose(file);
+}
+
+static int is_option(const char *word)
+{
+    return strncmp(word, "--", 2) == 0;
+}
+
+/* Takes the options, and answers where the files begin. */
+static int take_options(int count, char **words, int *csv, const char **draws_name)
+{
+    int first = 1;
+
+    for (; first < count && is_option(words[first]); first++)
+        if (strcmp(words[first], "--csv") == 0 && !*csv)
+            *csv = 1;
+        else if (strcmp(words[first], "--draws") == 0 && *draws_name == NULL && first + 1 < count
+                 && !is_option(words[first + 1]))
+            *draws_name = words[++first];
+        else
+            misused();
+    for (int i = first; i < count; i++)
+        if (is_option(words[i]))
+            misused();
+    if ((*csv || *draws_name != NULL) && count > first + 1)
+        misused();
+    return first;
+}
+
 int main(int count, char **words)
 {
-    int csv = count > 1 && strcmp(words[1], "--csv") == 0;
+    int csv = 0, status = RELEASED;
+    const char *draws_name = NULL;
+    int first = take_options(count, words, &csv, &draws_name);
     int (*print)(size_t) = csv ? print_text : print_run;
-    int status = RELEASED;
 
     /* A reader that has gone away is an output that cannot be written. */
     signal(SIGPIPE, SIG_IGN);
-    for (int i = 1 + csv; i < count; i++)
-        if (strncmp(words[i], "--", 2) == 0)
-            misused();
-    if (csv && count > 3)
-        misused();
-    if (count < 2 + csv)
+    if (draws_name != NULL)
+        read_draws(draws_name);
+    if (first == count)
         status = print(read_whole(stdin, "standard input"));
-    for (int i = 1 + csv; i < count; i++) {
+    for (int i = first; i < count; i++) {
         size_t length = read_file(words[i]);
 
         if (!csv)

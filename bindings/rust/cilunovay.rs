@@ -12,9 +12,9 @@
 //! `build.rs`, which stands beside this file, beside `Cargo.toml`; then write
 //! `mod cilunovay;`.
 //!
-//! [`Monitor::run`] evaluates a container; [`check`] does the input checks
-//! alone. Both answer for every slice of bytes. Rows, columns, steps and byte
-//! offsets count from 0.
+//! [`Monitor::run`] evaluates a container with a list of draws, which is empty for a
+//! plan without NOISE; [`check`] does the input checks alone. Both answer for every
+//! slice of bytes. Rows, columns, steps and byte offsets count from 0.
 
 // A program may use a part of this file.
 #![allow(dead_code)]
@@ -27,6 +27,9 @@ pub const LONGEST_CONTAINER: usize = 65_536;
 /// The longest text of a release, in bytes: 256 rows of 8 values of -2^47.
 pub const LONGEST_TEXT: usize = 35_097;
 
+/// No plan uses more draws: at most 63 steps NOISE, of 256 rows each.
+pub const MOST_DRAWS: usize = 16_128;
+
 const WORK: usize = 8_192;
 const OUTPUT: usize = 2_048;
 const TRACE: usize = 256;
@@ -37,6 +40,8 @@ unsafe extern "C" {
     fn cilunovay_run(
         container: *const u8,
         container_length: usize,
+        draws: *const i64,
+        draws_length: usize,
         values: *mut i64,
         values_length: usize,
         labels: *mut u32,
@@ -69,10 +74,11 @@ pub enum Kind {
     Keep,
     Apply,
     Group,
+    Noise,
 }
 
 impl Kind {
-    /// The number of the kind in a container and in a trace, 1 to 7.
+    /// The number of the kind in a container and in a trace, 1 to 8.
     pub fn number(self) -> u32 {
         self as u32 + 1
     }
@@ -86,7 +92,8 @@ impl Kind {
             5 => Kind::Keep,
             6 => Kind::Apply,
             7 => Kind::Group,
-            _ => unreachable!("a step has a kind from 1 to 7"),
+            8 => Kind::Noise,
+            _ => unreachable!("a step has a kind from 1 to 8"),
         }
     }
 }
@@ -210,7 +217,7 @@ impl InputFault {
 pub enum StateFault {
     /// 31: a FILTER operand, JOIN key or GROUP key is not clear.
     NotClear,
-    /// 32: APPLY or GROUP is forbidden by a label.
+    /// 32: APPLY, GROUP or NOISE is forbidden by a label.
     Forbidden,
     /// 33: APPLY's second operand is not clear.
     OperandNotClear,
@@ -220,10 +227,12 @@ pub enum StateFault {
     StageLeft,
     /// 36: at release a cell is OVER.
     Over,
+    /// 37: no draw is left for a row of NOISE.
+    NoDraw,
 }
 
 impl StateFault {
-    /// Document 01's number, 31 to 36.
+    /// The number of documents 01 and 02, 31 to 37.
     pub fn number(self) -> u32 {
         self as u32 + 31
     }
@@ -236,7 +245,8 @@ impl StateFault {
             34 => StateFault::TooMany,
             35 => StateFault::StageLeft,
             36 => StateFault::Over,
-            _ => unreachable!("an evaluation is refused with 31 to 36"),
+            37 => StateFault::NoDraw,
+            _ => unreachable!("an evaluation is refused with 31 to 37"),
         }
     }
 
@@ -244,11 +254,12 @@ impl StateFault {
     pub fn meaning(self) -> &'static str {
         match self {
             StateFault::NotClear => "a FILTER operand, JOIN key or GROUP key is not clear",
-            StateFault::Forbidden => "the cell's label forbids the APPLY or GROUP",
+            StateFault::Forbidden => "the cell's label forbids the APPLY, GROUP or NOISE",
             StateFault::OperandNotClear => "APPLY's second operand is not clear",
             StateFault::TooMany => "the UNION or JOIN would make more than 256 rows",
             StateFault::StageLeft => "at the release the cell has a stage of its label left",
             StateFault::Over => "at the release the cell is OVER, a result out of range",
+            StateFault::NoDraw => "no draw is left for the row, and NOISE needs new ones",
         }
     }
 }
@@ -280,7 +291,7 @@ pub enum Refusal {
 }
 
 impl Refusal {
-    /// Document 01's number: 11 to 19, or 31 to 36.
+    /// The number of documents 01 and 02: 11 to 19, or 31 to 37.
     pub fn number(&self) -> u32 {
         match self {
             Refusal::Input(refusal) => refusal.fault.number(),
@@ -354,14 +365,22 @@ impl Monitor {
 
     /// Evaluates a container's plan, and releases a table or refuses. Each lent slice
     /// has room enough, the text's too, so refusals 1 and 51 do not occur.
-    pub fn run(&mut self, container: &[u8]) -> Result<Release, Refusal> {
+    ///
+    /// NOISE adds the draws to values, one for each row of the table that it reads, in
+    /// row order and over the whole plan; a sum outside the range of values is OVER.
+    /// The draws may be any numbers, and more than the plan uses. Where a row finds none
+    /// left, the run is refused with 37. How they are distributed is the caller's care,
+    /// and so is that no draw is used in two runs: docs/DRAWS.md.
+    pub fn run(&mut self, container: &[u8], draws: &[i64]) -> Result<Release, Refusal> {
         let mut answer = [0u64; 4];
-        // Each pointer comes from a slice of the length given with it, and no two
-        // of them overlap.
+        // Each pointer comes from a slice of the length given with it, and none that
+        // is written to overlaps another.
         let number = unsafe {
             cilunovay_run(
                 container.as_ptr(),
                 container.len(),
+                draws.as_ptr(),
+                draws.len(),
                 self.values.as_mut_ptr(),
                 self.values.len(),
                 self.labels.as_mut_ptr(),

@@ -6,16 +6,23 @@
 //! release FILE..
 //! release --csv < CONTAINER > tally.csv
 //! release --csv FILE > tally.csv
+//! release --draws DRAWS < CONTAINER
+//! release --draws DRAWS --csv FILE > tally.csv
 //! ```
 //!
 //! Prints a line for each finished step, then the released rows or the refusal.
 //! Given files, it prints the name of each before its lines.
 //!
-//! With --csv, which stands before the file, it prints the released table as
-//! comma-separated text and nothing else. Of a refusal it prints nothing, and the line
-//! of the refusal goes to standard error.
+//! With --csv it prints the released table as comma-separated text and nothing else.
+//! Of a refusal it prints nothing, and the line of the refusal goes to standard error.
 //!
-//! A word that begins with -- is no file; ./--name is one.
+//! With --draws it lends the run the numbers of the file DRAWS, which NOISE adds to
+//! values: one to a line, each from -2^63 to 2^63 - 1, in at most 19 decimal digits.
+//! Without it there are none.
+//!
+//! Both stand before the file, in either order, and with either there is one container
+//! at most: draws are never used twice. A word that begins with -- is no file; ./--name
+//! is one.
 //!
 //! Exit status: 0 every container is released; 1 one is refused; 2 something could
 //! not be read or written, or the words are wrong, and then nothing that was printed
@@ -24,15 +31,19 @@
 
 mod cilunovay;
 
-use cilunovay::{Line, Monitor, Refusal, LONGEST_CONTAINER};
-use std::ffi::OsString;
-use std::io::{self, Read, Write};
+use cilunovay::{Line, Monitor, Refusal, Release, LONGEST_CONTAINER, MOST_DRAWS};
+use std::ffi::{OsStr, OsString};
+use std::fs::File;
+use std::io::{self, BufRead, BufReader, Read, Write};
 use std::os::unix::ffi::OsStrExt;
 use std::process::ExitCode;
 
 const RELEASED: u8 = 0;
 const REFUSED: u8 = 1;
 const BROKEN: u8 = 2;
+
+/// The bytes of the longest line in a file of draws, that of -2^63, with its end.
+const LONGEST_LINE: u64 = 21;
 
 fn main() -> ExitCode {
     let words: Vec<OsString> = std::env::args_os().skip(1).collect();
@@ -52,32 +63,90 @@ fn named(name: &str, error: io::Error) -> String {
     format!("release: {name}: {error}")
 }
 
+/// The options, and the files behind them.
+struct Words<'a> {
+    csv: bool,
+    draws: Option<&'a OsStr>,
+    names: &'a [OsString],
+}
+
+fn is_option(word: &OsString) -> bool {
+    word.as_bytes().starts_with(b"--")
+}
+
+fn options(words: &[OsString]) -> Option<Words<'_>> {
+    let mut taken = Words { csv: false, draws: None, names: words };
+    loop {
+        taken.names = match taken.names {
+            [word, rest @ ..] if word == "--csv" && !taken.csv => {
+                taken.csv = true;
+                rest
+            }
+            [word, file, rest @ ..] if word == "--draws" && taken.draws.is_none() && !is_option(file) => {
+                taken.draws = Some(file);
+                rest
+            }
+            names => {
+                let alone = taken.csv || taken.draws.is_some();
+                let wrong = names.iter().any(is_option) || (alone && names.len() > 1);
+                return (!wrong).then_some(taken);
+            }
+        };
+    }
+}
+
 /// Runs the container of standard input, or those of the files, and adds to the
 /// text what is to be printed.
 fn run(words: &[OsString], text: &mut Vec<u8>) -> Result<u8, String> {
-    let csv = words.first().is_some_and(|word| word == "--csv");
-    let names = &words[usize::from(csv)..];
-    if names.iter().any(|name| name.as_bytes().starts_with(b"--")) || (csv && names.len() > 1) {
-        return Err("usage: release [FILE..], or release --csv [FILE]".to_string());
-    }
+    let usage = "usage: release [FILE..], or release [--csv] [--draws DRAWS] [FILE]";
+    let Words { csv, draws, names } = options(words).ok_or(usage)?;
+    let draws = draws.map_or(Ok(Vec::new()), read_draws)?;
     let print = if csv { print_text } else { print_run };
     let mut monitor = Monitor::new();
     if names.is_empty() {
         let container = read(io::stdin()).map_err(|error| named("standard input", error))?;
-        return Ok(print(&mut monitor, &container, text));
+        return Ok(print(monitor.run(&container, &draws), text));
     }
     let mut status = RELEASED;
     for name in names {
-        let container = std::fs::File::open(name)
+        let container = File::open(name)
             .and_then(read)
             .map_err(|error| named(&name.to_string_lossy(), error))?;
         if !csv {
             text.extend_from_slice(name.as_bytes());
             text.push(b'\n');
         }
-        status = status.max(print(&mut monitor, &container, text));
+        status = status.max(print(monitor.run(&container, &draws), text));
     }
     Ok(status)
+}
+
+/// The numbers of a file of draws; those that no plan can use are not kept.
+fn read_draws(name: &OsStr) -> Result<Vec<i64>, String> {
+    let shown = name.to_string_lossy();
+    let file = File::open(name).map_err(|error| named(&shown, error))?;
+    let mut lines = BufReader::new(file);
+    let mut draws = Vec::new();
+    for count in 1.. {
+        let mut line = Vec::new();
+        let read = lines.by_ref().take(LONGEST_LINE + 1).read_until(b'\n', &mut line);
+        if read.map_err(|error| named(&shown, error))? == 0 {
+            break;
+        }
+        let what = || format!("release: {shown}: line {count} is no number from -2^63 to 2^63 - 1");
+        let draw = number(line.strip_suffix(b"\n").unwrap_or(&line)).ok_or_else(what)?;
+        if draws.len() < MOST_DRAWS {
+            draws.push(draw);
+        }
+    }
+    Ok(draws)
+}
+
+/// The number of a line: 1 to 19 digits, and a minus before them where it is below zero.
+fn number(word: &[u8]) -> Option<i64> {
+    let digits = word.strip_prefix(b"-").unwrap_or(word);
+    let fits = (1..=19).contains(&digits.len()) && digits.iter().all(u8::is_ascii_digit);
+    if fits { std::str::from_utf8(word).ok()?.parse().ok() } else { None }
 }
 
 /// At most one byte more than the longest container, so that a longer one is
@@ -88,8 +157,8 @@ fn read(source: impl Read) -> io::Result<Vec<u8>> {
     Ok(bytes)
 }
 
-fn print_run(monitor: &mut Monitor, container: &[u8], text: &mut Vec<u8>) -> u8 {
-    match monitor.run(container) {
+fn print_run(answer: Result<Release, Refusal>, text: &mut Vec<u8>) -> u8 {
+    match answer {
         Ok(release) => {
             print_steps(&release.trace, text);
             for row in &release {
@@ -106,8 +175,8 @@ fn print_run(monitor: &mut Monitor, container: &[u8], text: &mut Vec<u8>) -> u8 
 }
 
 /// The text of a release alone; the line of a refusal goes to standard error.
-fn print_text(monitor: &mut Monitor, container: &[u8], text: &mut Vec<u8>) -> u8 {
-    match monitor.run(container) {
+fn print_text(answer: Result<Release, Refusal>, text: &mut Vec<u8>) -> u8 {
+    match answer {
         Ok(release) => {
             text.extend_from_slice(release.text.as_bytes());
             RELEASED

@@ -16,7 +16,7 @@ const SUM: u32 = 0x2003_0001;
 /// Rows of the largest table.
 pub const SIZES: [usize; 3] = [16, 64, 256];
 
-pub static CASES: [Case; 9] = [
+pub static CASES: [Case; 10] = [
     Case {
         name: "SCAN",
         make: |rows| (draft(vec![table(8, rows, 0, 0)], &[scan(0)]), "SELECT * FROM t0"),
@@ -57,6 +57,16 @@ pub static CASES: [Case; 9] = [
         make: |rows| {
             let steps = [scan(0), step(6, 2, 0, 1, 3, 0)];
             (draft(vec![table(7, rows, 0, 0)], &steps), "SELECT *, c2 + c3 FROM t0")
+        },
+    },
+    Case {
+        name: "NOISE",
+        // As APPLY, with a draw for each row in place of column 3.
+        make: |rows| {
+            let draws = (0..rows as i64).map(|row| row * 37 % 101 - 50).collect();
+            let steps = [scan(0), step(8, 2, 0, 0, 0, 0)];
+            let sql = "SELECT t0.*, t0.c2 + draws.c0 FROM t0 JOIN draws ON t0.rowid = draws.rowid";
+            (Draft { draws, ..draft(vec![table(7, rows, 0, 0)], &steps) }, sql)
         },
     },
     Case {
@@ -131,7 +141,7 @@ fn scan(table: u8) -> RawStep {
 }
 
 fn draft(tables: Vec<RawTable>, steps: &[RawStep]) -> Draft {
-    Draft { tables, steps: steps.to_vec() }
+    Draft { tables, steps: steps.to_vec(), draws: Vec::new() }
 }
 
 /// Column 0: every key once, in an order of the table's own. Column 1: from 0

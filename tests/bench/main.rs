@@ -12,7 +12,7 @@
 //! and text: a release has its text in every case, and there is no run without.
 //! SQLite runs a prepared statement with the relational part of the plan over
 //! tables already in memory, without labels, and every value of the result is
-//! read. It makes a text only in the cases of text, where each value is read as
+//! read; the draws of NOISE are a table, joined by row number. It makes a text only in the cases of text, where each value is read as
 //! text as well: there all three do the same work, and in the other rows SQLite
 //! has rows to make where product and reference have rows and text. The means
 //! of the two sorts of rows are printed apart. Times are the best of all runs.
@@ -50,7 +50,7 @@ mod cases;
 mod sqlite;
 
 use cases::{Case, CASES, SIZES, TEXTS};
-use lent::{Lent, NEEDED};
+use lent::{Input, Lent, NEEDED};
 use reference::release::TEXT_LENGTH;
 use sqlite::Query;
 use std::time::{Duration, Instant};
@@ -92,6 +92,7 @@ fn keep(answer: [u32; 4]) {
 /// One case at one size, ready to run with any engine.
 struct Bench {
     container: Vec<u8>,
+    draws: Vec<i64>,
     lent: Lent,
     query: Query,
     rows: Vec<i64>,
@@ -105,11 +106,22 @@ type Given = (Vec<Vec<i64>>, Option<Vec<u8>>);
 impl Bench {
     fn new((case, text): (&Case, bool), size: usize) -> Bench {
         let (draft, sql) = (case.make)(size);
-        let mut lent = Lent::default();
-        lent.fill(NEEDED, TEXT_LENGTH, 1);
-        let query = Query::new(&draft.tables, sql);
-        let text = text.then(Vec::new);
-        Bench { container: draft.bytes(), lent, query, rows: vec![0; NEEDED[2]], text }
+        let query = Query::new(&draft.tables, &draft.draws, sql);
+        let mut bench = Bench {
+            container: draft.bytes(),
+            draws: draft.draws,
+            lent: Lent::default(),
+            query,
+            rows: vec![0; NEEDED[2]],
+            text: text.then(Vec::new),
+        };
+        bench.lend(1);
+        bench
+    }
+
+    fn lend(&mut self, pattern: u64) {
+        let input = Input { container: &self.container, draws: &self.draws };
+        self.lent.fill(input, NEEDED, TEXT_LENGTH, pattern);
     }
 
     /// Answers the number, rows, columns and the text's length.
@@ -117,13 +129,10 @@ impl Bench {
         match engine {
             0 => {
                 let mut answer = [0; product::RUN_ANSWER];
-                product::call_run(&self.container, &mut self.lent, &mut answer);
+                product::call_run(&mut self.lent, &mut answer);
                 answer.map(|number| number as u32)
             }
-            1 => {
-                let (values, labels, output, trace, text) = self.lent.slices();
-                reference::run(&self.container, values, labels, output, trace, text).numbers()
-            }
+            1 => product::by_reference(&mut self.lent),
             _ => {
                 let (rows, columns) = self.query.run(&mut self.rows, self.text.as_mut());
                 let length = self.text.as_ref().map_or(0, Vec::len);
@@ -134,7 +143,7 @@ impl Bench {
 
     fn result(&mut self, engine: usize) -> Given {
         // Nothing of an earlier engine's result is to be taken for this one's.
-        self.lent.fill(NEEDED, TEXT_LENGTH, engine as u64);
+        self.lend(engine as u64);
         let answer = self.run(engine);
         assert_eq!(answer[0], 0, "every plan here is released");
         let columns = answer[2] as usize;

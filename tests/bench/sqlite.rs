@@ -38,8 +38,8 @@ const OK: c_int = 0;
 const ROW: c_int = 100;
 const DONE: c_int = 101;
 
-/// Tables t0, t1 and on in memory, with columns c0, c1 and on, and one
-/// prepared statement over them.
+/// Tables t0, t1 and on in memory, with columns c0, c1 and on, the draws as a
+/// table of one column if there are any, and one prepared statement over them.
 pub struct Query {
     db: *mut c_void,
     statement: *mut c_void,
@@ -47,7 +47,7 @@ pub struct Query {
 }
 
 impl Query {
-    pub fn new(tables: &[RawTable], sql: &str) -> Query {
+    pub fn new(tables: &[RawTable], draws: &[i64], sql: &str) -> Query {
         let mut query = Query { db: ptr::null_mut(), statement: ptr::null_mut(), columns: 0 };
         let text = CString::new(sql).unwrap();
         let memory = CString::new(":memory:").unwrap();
@@ -55,7 +55,11 @@ impl Query {
             let opened = sqlite3_open(memory.as_ptr(), &mut query.db);
             query.expect(opened == OK);
             for (number, table) in tables.iter().enumerate() {
-                query.load(number, table);
+                query.load(&format!("t{number}"), table);
+            }
+            if !draws.is_empty() {
+                let cells = draws.iter().map(|&draw| (draw, 0)).collect();
+                query.load("draws", &RawTable { columns: 1, cells });
             }
             let none = ptr::null_mut();
             let prepared =
@@ -66,12 +70,12 @@ impl Query {
         query
     }
 
-    unsafe fn load(&self, number: usize, table: &RawTable) {
+    unsafe fn load(&self, name: &str, table: &RawTable) {
         let names: Vec<String> = (0..table.columns).map(|c| format!("c{c} INTEGER")).collect();
-        self.execute(&format!("CREATE TABLE t{number}({})", names.join(",")));
+        self.execute(&format!("CREATE TABLE {name}({})", names.join(",")));
         for row in table.cells.chunks(table.columns) {
             let values: Vec<String> = row.iter().map(|cell| cell.0.to_string()).collect();
-            self.execute(&format!("INSERT INTO t{number} VALUES({})", values.join(",")));
+            self.execute(&format!("INSERT INTO {name} VALUES({})", values.join(",")));
         }
     }
 

@@ -1,5 +1,6 @@
-// The header in C++: both functions on a container without bytes, the number of finished steps over slices that were used before, and the
-// text of a release in slices of several lengths. Takes place in the folder of the trials' containers, whose names stand in ../args.
+// The header in C++: both functions on a container without bytes, the number of finished steps over slices that were used before, draws of
+// several lengths, and the text of a release in slices of several lengths. Takes place in the folder of the trials' containers, whose names
+// stand in ../args; those of the trials with draws are in ../../noise_trials.
 #include <cilunovay.h>
 
 #include <algorithm>
@@ -13,18 +14,18 @@
 enum { PATTERN = 0xA5 };
 
 static std::vector<std::uint8_t> container(CILUNOVAY_CONTAINER + 1), text(CILUNOVAY_TEXT + 9);
-static std::size_t length;
-static std::vector<std::int64_t> values(CILUNOVAY_WORK), output(CILUNOVAY_OUTPUT);
+static std::size_t length, draws_length;
+static std::vector<std::int64_t> draws(CILUNOVAY_DRAWS), values(CILUNOVAY_WORK), output(CILUNOVAY_OUTPUT);
 static std::vector<std::uint32_t> labels(CILUNOVAY_WORK), trace(CILUNOVAY_TRACE, 9);
 static std::uint64_t answer[CILUNOVAY_ANSWER] = {9, 9, 9, 9};
 
-// Runs the container, with so many bytes for its text.
+// Runs the container with the draws, and with so many bytes for its text.
 static std::uint32_t run(std::size_t room)
 {
     std::fill(output.begin(), output.end(), PATTERN);
     std::fill(text.begin(), text.end(), PATTERN);
-    return cilunovay_run(container.data(), length, values.data(), values.size(), labels.data(), labels.size(), output.data(), output.size(),
-                         trace.data(), trace.size(), text.data(), room, answer, CILUNOVAY_ANSWER);
+    return cilunovay_run(container.data(), length, draws.data(), draws_length, values.data(), values.size(), labels.data(), labels.size(),
+                         output.data(), output.size(), trace.data(), trace.size(), text.data(), room, answer, CILUNOVAY_ANSWER);
 }
 
 static bool read(const std::string &name)
@@ -134,18 +135,61 @@ static bool texts()
     return number == CILUNOVAY_RELEASED ? released_text() : refused_text(number);
 }
 
-static bool texts_of_the_trials()
+// The numbers of a file, as draws.
+static bool read_draws(const std::string &name)
 {
-    std::ifstream names("../args");
-    std::string name;
+    std::ifstream file(name);
+
+    for (draws_length = 0; draws_length < draws.size() && file >> draws[draws_length];)
+        draws_length++;
+    return file.eof();
+}
+
+// The texts of the trials, without draws or with those of the file that stands behind each.
+static bool texts_of_the_trials(const std::string &folder, bool drawn)
+{
+    std::ifstream names(folder + "../args");
+    std::string name, draws_name;
     std::size_t count = 0;
 
-    for (; std::getline(names, name); count++)
-        if (!read(name) || !texts()) {
+    for (; std::getline(names, name) && (!drawn || std::getline(names, draws_name)); count++)
+        if (!read(folder + name) || (drawn && !read_draws(folder + draws_name)) || !texts()) {
             std::fprintf(stderr, "the text of %s\n", name.c_str());
             return false;
         }
+    draws_length = 0;
     return count > 0;
+}
+
+// A NOISE of column 1 over the rows (1, 10) and (2, 20), with so many draws.
+static std::uint32_t noise(std::size_t count)
+{
+    draws[0] = 5;
+    draws[1] = -6;
+    draws[2] = 7;
+    draws_length = count;
+    const std::uint32_t number = read("r37_noise_without_draws") ? fresh_run(CILUNOVAY_TEXT) : CILUNOVAY_TOO_SHORT;
+    draws_length = 0;
+    return draws[0] == 5 && draws[1] == -6 && draws[2] == 7 ? number : CILUNOVAY_TOO_SHORT;
+}
+
+// So few draws: 37 at the row that finds none, with the trace line of the SCAN, zeros in work memory, and nothing else changed.
+static bool too_few_draws(std::size_t count)
+{
+    std::vector<std::uint32_t> scanned(CILUNOVAY_TRACE, 9);
+    const std::uint32_t line[] = {1, 2, 2, 0};
+
+    std::copy(line, line + 4, scanned.begin());
+    return noise(count) == CILUNOVAY_NO_DRAW && answers(CILUNOVAY_NO_DRAW, 1, count, 1) && trace == scanned && all<std::int64_t>(values, 0)
+           && all<std::uint32_t>(labels, 0) && all<std::int64_t>(output, PATTERN) && holds("")
+           && cilunovay_finished(container.data(), answer) == 1;
+}
+
+// Enough draws: the sums, whether more are lent or not.
+static bool enough_draws(std::size_t count)
+{
+    return noise(count) == CILUNOVAY_RELEASED && holds("c0,c1,c2\r\n1,10,15\r\n2,20,14\r\n")
+           && cilunovay_finished(container.data(), answer) == 2;
 }
 
 static void put(std::initializer_list<std::uint8_t> bytes)
@@ -172,7 +216,9 @@ int main()
     return too_short() && finishes("steps_64", CILUNOVAY_RELEASED, 64) && finishes("printed_case", CILUNOVAY_RELEASED, 2)
                    && finishes("printed_case_minimum_3", CILUNOVAY_STAGE_LEFT, 2) && finishes("r31_filter_first_row", CILUNOVAY_NOT_CLEAR, 1)
                    && finishes("r34_union_of_257", CILUNOVAY_TOO_MANY, 2) && finishes("r36_add", CILUNOVAY_OVER, 2)
-                   && finishes("input_19", CILUNOVAY_BAD_COLUMNS, 0) && texts_of_the_trials() && longest_text()
+                   && finishes("r37_noise_of_a_group", CILUNOVAY_NO_DRAW, 2) && finishes("input_19", CILUNOVAY_BAD_COLUMNS, 0)
+                   && too_few_draws(0) && too_few_draws(1) && enough_draws(2) && enough_draws(3)
+                   && texts_of_the_trials("", false) && texts_of_the_trials("../../noise_trials/data/", true) && longest_text()
                ? 0
                : 1;
 }

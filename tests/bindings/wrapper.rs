@@ -8,7 +8,7 @@
 #[path = "../../bindings/rust/cilunovay.rs"]
 mod cilunovay;
 
-use cilunovay::{check, InputFault, Kind, Line, Monitor, Refusal, Release, StateFault, LONGEST_TEXT};
+use cilunovay::{check, InputFault, Kind, Line, Monitor, Refusal, Release, StateFault, StateRefusal, LONGEST_TEXT};
 
 fn containers() -> Vec<(String, Vec<u8>)> {
     let folder = std::env::var("CONTAINERS").expect("CONTAINERS names a folder");
@@ -34,12 +34,12 @@ fn the_printed_case() {
     let trace = vec![line(Kind::Scan, 2, 2, 2), line(Kind::Group, 1, 2, 0)];
     let text = "c0,c1\r\n7,8\r\n".to_string();
     let release = Release { rows: 1, columns: 2, values: vec![7, 8], text, trace };
-    assert_eq!(Monitor::new().run(&named("printed_case")), Ok(release));
+    assert_eq!(Monitor::new().run(&named("printed_case"), &[]), Ok(release));
 }
 
 #[test]
 fn the_printed_case_with_a_minimum_of_3() {
-    let refusal = Monitor::new().run(&named("printed_case_minimum_3")).unwrap_err();
+    let refusal = Monitor::new().run(&named("printed_case_minimum_3"), &[]).unwrap_err();
     assert_eq!(refusal.number(), 35);
     assert_eq!(
         refusal.to_string(),
@@ -50,7 +50,7 @@ fn the_printed_case_with_a_minimum_of_3() {
 
 #[test]
 fn a_release_is_gone_through_row_by_row() {
-    let release = Monitor::new().run(&named("release_256_rows_of_8_columns")).unwrap();
+    let release = Monitor::new().run(&named("release_256_rows_of_8_columns"), &[]).unwrap();
     let mut rows = 0;
     for row in &release {
         assert_eq!((row.len(), row[0]), (8, rows));
@@ -58,7 +58,7 @@ fn a_release_is_gone_through_row_by_row() {
     }
     assert_eq!((rows, release.iter().count()), (256, release.rows));
     assert!(release.clone().into_iter().eq(release.iter()));
-    let empty = Monitor::new().run(&named("release_no_rows")).unwrap();
+    let empty = Monitor::new().run(&named("release_no_rows"), &[]).unwrap();
     assert_eq!((&empty).into_iter().count(), 0);
 }
 
@@ -71,7 +71,7 @@ fn text_line(words: impl Iterator<Item = String>) -> String {
 fn a_text_has_the_rows_of_its_release() {
     let mut released = 0;
     for (name, container) in containers() {
-        if let Ok(release) = Monitor::new().run(&container) {
+        if let Ok(release) = Monitor::new().run(&container, &[]) {
             let mut text = text_line((0..release.columns).map(|column| format!("c{column}")));
             for row in &release {
                 text += &text_line(row.iter().map(i64::to_string));
@@ -85,7 +85,7 @@ fn a_text_has_the_rows_of_its_release() {
 
 #[test]
 fn a_text_of_no_rows_is_its_first_line() {
-    assert_eq!(Monitor::new().run(&named("release_no_rows")).unwrap().text, "c0,c1,c2\r\n");
+    assert_eq!(Monitor::new().run(&named("release_no_rows"), &[]).unwrap().text, "c0,c1,c2\r\n");
 }
 
 #[test]
@@ -97,8 +97,42 @@ fn the_longest_text_has_room() {
         container.extend((-(1i64 << 47)).to_le_bytes());
         container.extend([0; 4]);
     }
-    let release = Monitor::new().run(&container).unwrap();
+    let release = Monitor::new().run(&container, &[]).unwrap();
     assert_eq!((release.rows, release.columns, release.text.len()), (256, 8, LONGEST_TEXT));
+}
+
+/// A NOISE of column 1 over the rows (1, 10) and (2, 20).
+const NOISE: &str = "r37_noise_without_draws";
+
+#[test]
+fn noise_adds_the_draws() {
+    let mut monitor = Monitor::new();
+    for draws in [&[5, -6][..], &[5, -6, 7], &[5, -6, i64::MIN, i64::MAX]] {
+        let release = monitor.run(&named(NOISE), draws).unwrap();
+        assert_eq!(release.values, [1, 10, 15, 2, 20, 14]);
+        assert_eq!(release.trace, [line(Kind::Scan, 2, 2, 0), line(Kind::Noise, 2, 3, 0)]);
+    }
+    let lowest = monitor.run(&named(NOISE), &[i64::MIN, i64::MAX]).unwrap_err();
+    assert_eq!((lowest.number(), lowest.trace().len()), (36, 2));
+    assert_eq!(Kind::Noise.number(), 8);
+}
+
+#[test]
+fn a_row_without_a_draw_is_refused() {
+    for draws in [&[][..], &[5]] {
+        let refusal = Monitor::new().run(&named(NOISE), draws).unwrap_err();
+        let (row, column) = (draws.len(), 1);
+        let trace = vec![line(Kind::Scan, 2, 2, 0)];
+        assert_eq!(
+            refusal,
+            Refusal::State(StateRefusal { fault: StateFault::NoDraw, step: 1, row, column, trace })
+        );
+        let place = format!("step 1, row {row}, column {column}");
+        assert_eq!(
+            refusal.to_string(),
+            format!("refused with 37 at {place}: no draw is left for the row, and NOISE needs new ones")
+        );
+    }
 }
 
 #[test]
@@ -109,21 +143,21 @@ fn no_bytes_at_all() {
         refusal.to_string(),
         "refused with 11 at byte 0: the container is too long or too short, or its part count is wrong"
     );
-    assert_eq!(Monitor::new().run(&[]), Err(Refusal::Input(refusal)));
+    assert_eq!(Monitor::new().run(&[], &[]), Err(Refusal::Input(refusal)));
 }
 
 #[test]
 fn nothing_of_one_run_shows_in_the_next() {
     let mut used = Monitor::new();
     for (name, container) in containers() {
-        assert_eq!(used.run(&container), Monitor::new().run(&container), "{name}");
+        assert_eq!(used.run(&container, &[]), Monitor::new().run(&container, &[]), "{name}");
     }
 }
 
 #[test]
 fn the_input_checks_are_those_of_a_run() {
     for (name, container) in containers() {
-        let refused = match Monitor::new().run(&container) {
+        let refused = match Monitor::new().run(&container, &[]) {
             Err(Refusal::Input(refusal)) => Some(refusal),
             _ => None,
         };
@@ -135,12 +169,12 @@ fn the_input_checks_are_those_of_a_run() {
 fn every_number_occurs_and_is_the_fault_s() {
     let mut seen: Vec<u32> = Vec::new();
     for (_, container) in containers() {
-        if let Err(refusal) = Monitor::new().run(&container) {
+        if let Err(refusal) = Monitor::new().run(&container, &[]) {
             seen.push(refusal.number());
         }
     }
     seen.sort();
     seen.dedup();
-    assert_eq!(seen, [11, 12, 13, 14, 15, 16, 17, 18, 19, 31, 32, 33, 34, 35, 36]);
-    assert_eq!((InputFault::Columns.number(), StateFault::Over.number()), (19, 36));
+    assert_eq!(seen, [11, 12, 13, 14, 15, 16, 17, 18, 19, 31, 32, 33, 34, 35, 36, 37]);
+    assert_eq!((InputFault::Columns.number(), StateFault::NoDraw.number()), (19, 37));
 }

@@ -45,19 +45,37 @@ fn short(needed: usize, pattern: u64, mut call: impl FnMut(&mut [u64]) -> u32) -
     Ok(())
 }
 
-pub fn run(container: &[u8], lent: &mut Lent, pattern: u64) -> Result<[u32; RUN_ANSWER], String> {
-    let numbers = whole(RUN_ANSWER, pattern, |answer| call_run(container, lent, answer))?;
+/// Whatever is lent for reading stays as it is.
+fn only_read<R>(
+    lent: &mut Lent,
+    run: impl FnOnce(&mut Lent) -> Result<R, String>,
+) -> Result<R, String> {
+    let before = lent.read.clone();
+    let result = run(lent)?;
+    if lent.read != before {
+        return Err("a run changed its container or its draws".into());
+    }
+    Ok(result)
+}
+
+pub fn run(lent: &mut Lent, pattern: u64) -> Result<[u32; RUN_ANSWER], String> {
+    let numbers =
+        only_read(lent, |lent| whole(RUN_ANSWER, pattern, |answer| call_run(lent, answer)))?;
     Ok(numbers.try_into().unwrap())
 }
 
 pub fn check(container: &[u8], pattern: u64) -> Result<[u32; CHECK_ANSWER], String> {
-    let numbers = whole(CHECK_ANSWER, pattern, |answer| call_check(container, answer))?;
+    let read = container.to_vec();
+    let numbers = whole(CHECK_ANSWER, pattern, |answer| call_check(&read, answer))?;
+    if read != container {
+        return Err("the input checks changed their container".into());
+    }
     Ok(numbers.try_into().unwrap())
 }
 
 /// `lent` is to be unchanged afterwards.
-pub fn short_run(container: &[u8], lent: &mut Lent, pattern: u64) -> Result<(), String> {
-    short(RUN_ANSWER, pattern, |answer| call_run(container, lent, answer))
+pub fn short_run(lent: &mut Lent, pattern: u64) -> Result<(), String> {
+    only_read(lent, |lent| short(RUN_ANSWER, pattern, |answer| call_run(lent, answer)))
 }
 
 pub fn short_check(container: &[u8], pattern: u64) -> Result<(), String> {

@@ -2,12 +2,16 @@
 //! checks is the point), and number and place of the refusal are known.
 
 use crate::draft::{assemble, part_offset, step, Draft, RawStep, RawTable};
-use crate::generate::{any_step, number, shapes};
+use crate::generate::any_step;
 use crate::reference::value::{HIGHEST, LOWEST};
 use crate::rng::Rng;
+use crate::wrong_steps::{
+    apply, bad, byte, column_operand, constant, insert, left_over, narrow, not_zero, outside, past,
+    prefix, shallow, wide, wide_join, with_width, zero_byte,
+};
 
 /// The bytes of the container and the offset of the refusal.
-type Made = (Vec<u8>, usize);
+pub type Made = (Vec<u8>, usize);
 
 /// The class, the number of the refusal, and how to make such a container of a
 /// valid one, which has room for a few steps and cells more.
@@ -309,7 +313,7 @@ pub static DAMAGES: &[Damage] = &[
     }),
     // 17
     ("17 kind 0", 17, |r, d| bad(r, d, 5, |_, s| s.kind = 0)),
-    ("17 kind 8", 17, |r, d| bad(r, d, 7, |_, s| s.kind = 8)),
+    ("17 kind 9", 17, |r, d| bad(r, d, 8, |_, s| s.kind = 9)),
     ("17 kind 255", 17, |r, d| bad(r, d, 1, |_, s| s.kind = 255)),
     ("17 SCAN b", 17, |r, d| bad(r, d, 1, |r, s| s.b = byte(r))),
     ("17 SCAN c", 17, |r, d| bad(r, d, 1, |r, s| s.c = byte(r))),
@@ -388,9 +392,16 @@ pub static DAMAGES: &[Damage] = &[
     ("17 GROUP b", 17, |r, d| bad(r, d, 7, |r, s| s.b = r.between(5, 255) as u8)),
     ("17 GROUP d", 17, |r, d| bad(r, d, 7, |r, s| s.d = byte(r))),
     ("17 GROUP constant", 17, |r, d| bad(r, d, 7, |r, s| s.constant = not_zero(r))),
-    ("17 first zero byte, kinds 1 to 7", 17, |r, d| zero_byte(r, d, 0)),
-    ("17 second zero byte, kinds 1 to 7", 17, |r, d| zero_byte(r, d, 1)),
-    ("17 third zero byte, kinds 1 to 7", 17, |r, d| zero_byte(r, d, 2)),
+    ("17 NOISE b", 17, |r, d| bad(r, d, 8, |r, s| s.b = byte(r))),
+    ("17 NOISE c", 17, |r, d| bad(r, d, 8, |r, s| s.c = byte(r))),
+    ("17 NOISE d", 17, |r, d| bad(r, d, 8, |r, s| s.d = byte(r))),
+    ("17 NOISE, first zero byte", 17, |r, d| bad(r, d, 8, |r, s| s.zero[0] = byte(r))),
+    ("17 NOISE, second zero byte", 17, |r, d| bad(r, d, 8, |r, s| s.zero[1] = byte(r))),
+    ("17 NOISE, third zero byte", 17, |r, d| bad(r, d, 8, |r, s| s.zero[2] = byte(r))),
+    ("17 NOISE constant", 17, |r, d| bad(r, d, 8, |r, s| s.constant = not_zero(r))),
+    ("17 first zero byte, kinds 1 to 8", 17, |r, d| zero_byte(r, d, 0)),
+    ("17 second zero byte, kinds 1 to 8", 17, |r, d| zero_byte(r, d, 1)),
+    ("17 third zero byte, kinds 1 to 8", 17, |r, d| zero_byte(r, d, 2)),
     ("17 before 18 in the same step", 17, |_, mut d| {
         let rest = std::mem::take(&mut d.steps);
         let mut wrong = step(2, 0, 0, 0, 0, 0);
@@ -403,6 +414,13 @@ pub static DAMAGES: &[Damage] = &[
             s.b = 1
         })
     }),
+    ("17 before 18 in the same step, NOISE", 17, |r, mut d| {
+        let rest = std::mem::take(&mut d.steps);
+        insert(d, step(8, 0, 0, 0, byte(r), 0), rest)
+    }),
+    ("17 before 19 in the same step, NOISE", 17, |r, d| {
+        wide(r, d, |r| step(8, r.below(8) as u8, 0, 0, 0, not_zero(r)))
+    }),
     // 18
     ("18 UNION on none", 18, |r, d| shallow(r, d, 2, 0)),
     ("18 UNION on one", 18, |r, d| shallow(r, d, 2, 1)),
@@ -412,6 +430,7 @@ pub static DAMAGES: &[Damage] = &[
     ("18 KEEP on none", 18, |r, d| shallow(r, d, 5, 0)),
     ("18 APPLY on none", 18, |r, d| shallow(r, d, 6, 0)),
     ("18 GROUP on none", 18, |r, d| shallow(r, d, 7, 0)),
+    ("18 NOISE on none", 18, |r, d| shallow(r, d, 8, 0)),
     ("18 SCAN onto three", 18, |r, mut d| {
         let (_, rest) = prefix(r, &mut d, 3);
         let scan = any_step(r, 1, &[], d.tables.len());
@@ -433,6 +452,10 @@ pub static DAMAGES: &[Damage] = &[
             step(7, 255, 0, 200, 0, 0),
         ]);
         insert(d, wrong, rest)
+    }),
+    ("18 before 19 in the same step, NOISE", 18, |r, mut d| {
+        let rest = std::mem::take(&mut d.steps);
+        insert(d, step(8, past(r, 8), 0, 0, 0, 0), rest)
     }),
     ("18 before 17 in a later step", 18, |_, mut d| {
         d.steps.clear();
@@ -511,6 +534,9 @@ pub static DAMAGES: &[Damage] = &[
     ("19 GROUP with eight keys", 19, |r, d| {
         wide(r, d, |r| step(7, 255, r.below(5) as u8, r.below(8) as u8, 0, 0))
     }),
+    ("19 NOISE column", 19, |r, d| narrow(r, d, |r| step(8, past(r, 1), 0, 0, 0, 0))),
+    ("19 NOISE, the next column", 19, |r, d| with_width(r, d, |_, w| step(8, w as u8, 0, 0, 0, 0))),
+    ("19 NOISE to nine columns", 19, |r, d| wide(r, d, |r| step(8, r.below(8) as u8, 0, 0, 0, 0))),
     ("19 before 17 in a later step", 19, |_, mut d| {
         d.steps.clear();
         insert(d, step(1, 255, 0, 0, 0, 0), vec![RawStep::default()])
@@ -629,159 +655,4 @@ fn plan(d: Draft, change: impl Fn(&mut Vec<u8>)) -> Made {
     change(&mut parts[0]);
     let offset = part_offset(&parts, 0);
     (assemble(&parts), offset)
-}
-
-fn byte(rng: &mut Rng) -> u8 {
-    rng.between(1, 255) as u8
-}
-
-fn not_zero(rng: &mut Rng) -> i64 {
-    match number(rng) {
-        0 => rng.pick(&[1, i64::MIN, i64::MAX]),
-        other => other,
-    }
-}
-
-fn outside(rng: &mut Rng) -> i64 {
-    if rng.chance(50) {
-        rng.between(HIGHEST + 1, i64::MAX)
-    } else {
-        rng.between(i64::MIN, LOWEST - 1)
-    }
-}
-
-fn constant(step: &mut RawStep, constant: i64) {
-    step.c = 0;
-    step.d = 0;
-    step.constant = constant;
-}
-
-/// A column that a table of this width does not have.
-fn past(rng: &mut Rng, width: usize) -> u8 {
-    match rng.below(3) {
-        0 => width as u8,
-        1 => 255,
-        _ => rng.between(width as i64, 255) as u8,
-    }
-}
-
-/// Cuts the plan to a beginning that leaves this many tables; answers their
-/// widths and the steps cut off.
-fn prefix(rng: &mut Rng, d: &mut Draft, depth: usize) -> (Vec<usize>, Vec<RawStep>) {
-    let shapes = shapes(&d.steps, &d.widths());
-    let fit: Vec<usize> =
-        (0..shapes.len().min(40)).filter(|&at| shapes[at].len() == depth).collect();
-    if !fit.is_empty() && rng.chance(90) {
-        let at = rng.pick(&fit);
-        let rest = d.steps.split_off(at);
-        return (shapes[at].clone(), rest);
-    }
-    let rest = std::mem::take(&mut d.steps);
-    let mut shape = Vec::new();
-    for _ in 0..depth {
-        let table = rng.below(d.tables.len());
-        d.steps.push(step(1, table as u8, 0, 0, 0, 0));
-        shape.push(d.tables[table].columns);
-    }
-    (shape, rest)
-}
-
-/// Adds the wrong step and, as far as they fit, the steps after it.
-fn insert(mut d: Draft, wrong: RawStep, rest: Vec<RawStep>) -> Made {
-    let parts = d.parts();
-    let offset = part_offset(&parts, 0) + parts[0].len();
-    d.steps.push(wrong);
-    d.steps.extend(rest);
-    d.steps.truncate(64);
-    (d.bytes(), offset)
-}
-
-/// A good step of this kind, made bad, somewhere in the plan.
-fn bad(rng: &mut Rng, mut d: Draft, kind: u8, change: fn(&mut Rng, &mut RawStep)) -> Made {
-    let depth = match kind {
-        1 => rng.below(3),
-        2 | 3 => 2 + rng.below(2),
-        _ => 1 + rng.below(3),
-    };
-    let (shape, rest) = prefix(rng, &mut d, depth);
-    let mut wrong = any_step(rng, kind, &shape, d.tables.len());
-    change(rng, &mut wrong);
-    insert(d, wrong, rest)
-}
-
-fn apply(rng: &mut Rng, d: Draft, code: u8, wrong: i64) -> Made {
-    with_width(rng, d, |rng, width| step(6, rng.below(width) as u8, code, 0, 0, wrong))
-}
-
-fn column_operand(rng: &mut Rng, d: Draft, code: u8) -> Made {
-    with_width(rng, d, |rng, width| {
-        let constant = rng.pick(&[0, 1, 6]);
-        step(6, rng.below(width) as u8, code, 1, rng.below(width) as u8, constant)
-    })
-}
-
-fn zero_byte(rng: &mut Rng, mut d: Draft, which: usize) -> Made {
-    let kind = 1 + rng.below(7) as u8;
-    let (shape, rest) = prefix(rng, &mut d, if kind == 1 { 1 } else { 2 });
-    let mut wrong = any_step(rng, kind, &shape, d.tables.len());
-    wrong.zero[which] = byte(rng);
-    insert(d, wrong, rest)
-}
-
-fn shallow(rng: &mut Rng, mut d: Draft, kind: u8, depth: usize) -> Made {
-    let (shape, rest) = prefix(rng, &mut d, depth);
-    let wrong = any_step(rng, kind, &shape, d.tables.len());
-    insert(d, wrong, rest)
-}
-
-/// A plan that ends with this many tables.
-fn left_over(rng: &mut Rng, mut d: Draft, depth: usize) -> Made {
-    prefix(rng, &mut d, depth);
-    let parts = d.parts();
-    let end = part_offset(&parts, 1);
-    (assemble(&parts), end)
-}
-
-fn with_width(rng: &mut Rng, mut d: Draft, wrong: impl Fn(&mut Rng, usize) -> RawStep) -> Made {
-    let depth = 1 + rng.below(3);
-    let (shape, rest) = prefix(rng, &mut d, depth);
-    let wrong = wrong(rng, shape[depth - 1]);
-    insert(d, wrong, rest)
-}
-
-/// With a table of one column on top.
-fn narrow(rng: &mut Rng, mut d: Draft, wrong: fn(&mut Rng) -> RawStep) -> Made {
-    let depth = 1 + rng.below(3);
-    let (_, rest) = prefix(rng, &mut d, depth);
-    d.steps.push(step(5, 1, 0, 0, 0, 0));
-    let wrong = wrong(rng);
-    insert(d, wrong, rest)
-}
-
-/// With a table of eight columns on top.
-fn wide(rng: &mut Rng, mut d: Draft, wrong: fn(&mut Rng) -> RawStep) -> Made {
-    let depth = 1 + rng.below(3);
-    let (shape, rest) = prefix(rng, &mut d, depth);
-    widen(&mut d, shape[depth - 1], 8);
-    let wrong = wrong(rng);
-    insert(d, wrong, rest)
-}
-
-fn widen(d: &mut Draft, from: usize, to: usize) {
-    for _ in from..to {
-        d.steps.push(step(6, 0, 0, 0, 0, 1));
-    }
-}
-
-/// A JOIN that would make this many columns.
-fn wide_join(rng: &mut Rng, mut d: Draft, columns: usize) -> Made {
-    let rest = std::mem::take(&mut d.steps);
-    let table = rng.below(d.tables.len());
-    let scan = step(1, table as u8, 0, 0, 0, 0);
-    let left = (columns - 7).max(rng.below(9).min(columns));
-    for to in [left, columns + 1 - left] {
-        d.steps.extend([scan, step(5, 1, 0, 0, 0, 0)]);
-        widen(&mut d, 1, to);
-    }
-    insert(d, step(3, 0, 0, 0, 0, 0), rest)
 }

@@ -1,4 +1,5 @@
-//! A container before it is written: tables and steps as raw fields.
+//! A container before it is written: tables and steps as raw fields, and the
+//! draws that are lent beside it.
 
 use crate::reference::steps::Step;
 
@@ -6,6 +7,7 @@ use crate::reference::steps::Step;
 pub struct Draft {
     pub tables: Vec<RawTable>,
     pub steps: Vec<RawStep>,
+    pub draws: Vec<i64>,
 }
 
 /// Cells row by row, each a value and a label word.

@@ -3,6 +3,7 @@
 
 use crate::draft::{step, Draft, RawStep, RawTable};
 use crate::labels::label;
+use crate::noise::{for_rows, list, NOISY};
 use crate::reference::eval::perform;
 use crate::reference::label::Label;
 use crate::reference::steps::{Aggregate, Step};
@@ -26,7 +27,7 @@ pub enum Theme {
 }
 
 pub fn valid(rng: &mut Rng) -> Draft {
-    if rng.chance(30) {
+    if rng.chance(36) {
         return staged(rng);
     }
     let theme = match rng.below(200) {
@@ -47,8 +48,8 @@ pub fn valid(rng: &mut Rng) -> Draft {
     };
     let mut planner = Planner::new(rng, &tables, theme, length);
     planner.plan();
-    let steps = planner.steps;
-    Draft { tables, steps }
+    let (steps, used) = planner.done();
+    Draft { tables, steps, draws: list(rng, used) }
 }
 
 /// A container that begins with a scene; sometimes the scene comes last, as
@@ -56,7 +57,7 @@ pub fn valid(rng: &mut Rng) -> Draft {
 fn staged(rng: &mut Rng) -> Draft {
     let Scene { tables, steps } = scene(rng);
     let late = rng.chance(8);
-    let length = if late { 64 } else { steps.len() + rng.pick(&[0, 0, 2, 6]) };
+    let length = if late { 64 } else { (steps.len() + rng.pick(&[0, 0, 2, 6])).min(64) };
     let mut planner = Planner::new(rng, &tables, Theme::General, length);
     let daring = std::mem::replace(&mut planner.daring, 100);
     for (number, raw) in steps.iter().enumerate() {
@@ -69,8 +70,8 @@ fn staged(rng: &mut Rng) -> Draft {
     }
     planner.daring = daring;
     planner.finish();
-    let steps = planner.steps;
-    Draft { tables, steps }
+    let (steps, used) = planner.done();
+    Draft { tables, steps, draws: list(rng, used) }
 }
 
 /// The reference's view of raw tables.
@@ -212,6 +213,8 @@ struct Planner<'r> {
     shape: Vec<usize>,
     /// How often, in percent, a step that will be refused is taken.
     daring: usize,
+    /// The draws that the steps so far have used.
+    draws: Vec<i64>,
 }
 
 impl<'r> Planner<'r> {
@@ -227,7 +230,13 @@ impl<'r> Planner<'r> {
             stack: Some(Vec::new()),
             shape: Vec::new(),
             daring,
+            draws: Vec::new(),
         }
+    }
+
+    /// The plan, and the draws that it uses.
+    fn done(self) -> (Vec<RawStep>, Vec<i64>) {
+        (self.steps, self.draws)
     }
 
     fn plan(&mut self) {
@@ -276,8 +285,10 @@ impl<'r> Planner<'r> {
         }
         let mut stack = self.stack.clone();
         let mut stopped = false;
+        let mut draws = self.draws_for(&step);
+        let mut left = draws.iter();
         if let Some(tables) = &mut stack {
-            match perform(&step, &self.tables, tables) {
+            match perform(&step, &self.tables, tables, &mut left) {
                 Ok(made) => tables.push(made),
                 Err(_) => stopped = true,
             }
@@ -288,10 +299,24 @@ impl<'r> Planner<'r> {
             }
             stack = None;
         }
+        let used = draws.len() - left.len();
+        draws.truncate(used);
+        self.draws.append(&mut draws);
         self.stack = stack;
         self.shape = shape;
         self.steps.push(raw);
         true
+    }
+
+    /// A draw for each row that the step reads, if it is a NOISE.
+    fn draws_for(&mut self, step: &Step) -> Vec<i64> {
+        let top = self.stack.as_ref().and_then(|stack| stack.last());
+        match (step, top) {
+            (Step::Noise { column }, Some(top)) => {
+                for_rows(self.rng, (0..top.rows()).map(|row| top.row(row)[*column].value))
+            }
+            _ => Vec::new(),
+        }
     }
 
     fn some_step(&mut self) {
@@ -319,9 +344,10 @@ impl<'r> Planner<'r> {
             return self.keep();
         }
         match self.rng.below(100) {
-            0..=27 => self.filter(),
-            28..=37 => self.keep(),
-            38..=74 => self.apply(),
+            0..=25 => self.filter(),
+            26..=34 => self.keep(),
+            35..=68 => self.apply(),
+            69..=77 => self.noise(),
             _ => self.group(),
         }
     }
@@ -479,6 +505,16 @@ impl<'r> Planner<'r> {
         step(7, keys, aggregate, column, 0, 0)
     }
 
+    fn noise(&mut self) -> RawStep {
+        // A column with N that NOISE may discharge, or any that it may read.
+        let column = if self.rng.chance(60) {
+            self.column_where(0, |cell| cell.label.word() == NOISY)
+        } else {
+            self.column_where(0, |cell| cell.label.after_noise().is_ok())
+        };
+        step(8, column, 0, 0, 0, 0)
+    }
+
     /// Makes one table of the two on top.
     fn fold(&mut self) {
         let depth = self.shape.len();
@@ -540,7 +576,8 @@ pub fn any_step(rng: &mut Rng, kind: u8, shape: &[usize], tables: usize) -> RawS
         6 if rng.chance(30) => step(6, one, 2, 0, 0, rng.between(1, 6)),
         6 if rng.chance(30) => step(6, one, 3, 0, 0, rng.between(1, HIGHEST)),
         6 => step(6, one, rng.below(2) as u8, 0, 0, number(rng)),
-        _ => step(7, 1 << one, rng.below(5) as u8, two, 0, 0),
+        7 => step(7, 1 << one, rng.below(5) as u8, two, 0, 0),
+        _ => step(8, one, 0, 0, 0, 0),
     }
 }
 

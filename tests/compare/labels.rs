@@ -14,11 +14,12 @@ const N: u32 = 1 << 28;
 /// the most frequent.
 pub fn label(rng: &mut Rng, rows: usize) -> u32 {
     let stages = match rng.below(100) {
-        0..=34 => A,
-        35..=54 => T,
-        55..=79 => T | A,
-        80..=84 => H,
-        85..=88 => N,
+        0..=31 => A,
+        32..=50 => T,
+        51..=73 => T | A,
+        74..=78 => H,
+        79..=85 => N,
+        86..=88 => A | N,
         89..=92 => T | A | N,
         93..=94 => H | T | A | N,
         _ => (rng.below(15) as u32 + 1) << 28,
@@ -45,7 +46,7 @@ pub fn label(rng: &mut Rng, rows: usize) -> u32 {
         };
     }
     if stages & N != 0 {
-        word |= (rng.chance(50) as u32) << 23;
+        word |= (rng.chance(65) as u32) << 23;
     }
     word
 }
@@ -53,21 +54,43 @@ pub fn label(rng: &mut Rng, rows: usize) -> u32 {
 /// Why a cell is locked: the stages that no step of the plan can discharge.
 #[derive(Clone, Copy, Default)]
 pub struct Lock {
-    pub h: bool,
-    pub t: bool,
-    pub a: bool,
-    pub n: bool,
+    h: bool,
+    t: bool,
+    a: bool,
+    n: Option<Lacks>,
+}
+
+/// What a stage N lacks.
+#[derive(Clone, Copy)]
+enum Lacks {
+    Bit,
+    Step,
+    Both,
 }
 
 impl Lock {
     pub fn any(&self) -> bool {
-        self.h || self.t || self.a || self.n
+        self.h || self.t || self.a || self.n.is_some()
+    }
+
+    /// The class of a pair that differs in such a cell.
+    pub fn class(&self) -> &'static str {
+        match (self.h, self.t, self.a, self.n) {
+            (true, false, false, None) => "pair: locked by H alone",
+            (false, true, false, None) => "pair: locked by T alone",
+            (false, false, true, None) => "pair: locked by A alone",
+            (false, false, false, Some(Lacks::Bit)) => "pair: locked by N alone, without the bit",
+            (false, false, false, Some(Lacks::Step)) => "pair: locked by N alone, without a NOISE",
+            (false, false, false, Some(Lacks::Both)) => "pair: locked by N alone, without either",
+            _ => "pair: locked by several stages",
+        }
     }
 }
 
 /// "H is present; or T is present and no APPLY has an allowed operation (cut:
 /// enough digits); or A is present and no GROUP has an allowed aggregate; or N
-/// is present."
+/// is present", this last, by #102, "only if its noise bit is off or the plan has
+/// no NOISE".
 pub fn lock(label: &Label, plan: &[Step]) -> Lock {
     let applied = |step: &Step| match (step, label.transform) {
         (Step::Apply { operation, .. }, Some(stage)) => stage.allows(operation),
@@ -77,27 +100,31 @@ pub fn lock(label: &Label, plan: &[Step]) -> Lock {
         (Step::Group { aggregate, .. }, Some(stage)) => stage.allows(*aggregate),
         _ => false,
     };
+    let noised = plan.iter().any(|step| matches!(step, Step::Noise { .. }));
     Lock {
         h: label.held,
         t: label.transform.is_some() && !plan.iter().any(applied),
         a: label.aggregate.is_some() && !plan.iter().any(grouped),
-        n: label.noise.is_some(),
+        n: match (label.noise, noised) {
+            (Some(false), true) => Some(Lacks::Bit),
+            (Some(true), false) => Some(Lacks::Step),
+            (Some(false), false) => Some(Lacks::Both),
+            (Some(true), true) | (None, _) => None,
+        },
     }
 }
 
-/// The byte offsets of the values of the locked cells, with the reason.
-pub fn locked_cells(bytes: &[u8], container: &Container) -> Vec<(usize, Lock)> {
+/// The labelled cells: the byte offset of each value, its label, and why it is
+/// locked.
+pub fn labelled_cells(bytes: &[u8], container: &Container) -> Vec<(usize, Label, Lock)> {
     let u32_at = |at: usize| u32::from_le_bytes(bytes[at..at + 4].try_into().unwrap()) as usize;
     let mut found = Vec::new();
     for (index, table) in container.tables.iter().enumerate() {
         let start = u32_at(2 + 8 * (index + 1)) + 4;
         for (cell, content) in table.cells.iter().enumerate() {
-            if content.label.is_clear() {
-                continue;
-            }
-            let lock = lock(&content.label, &container.plan);
-            if lock.any() {
-                found.push((start + 12 * cell, lock));
+            if !content.label.is_clear() {
+                let lock = lock(&content.label, &container.plan);
+                found.push((start + 12 * cell, content.label, lock));
             }
         }
     }

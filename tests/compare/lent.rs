@@ -1,5 +1,5 @@
-//! The slices lent to a run, filled with a known pattern, each with a margin
-//! after it that nothing may touch.
+//! The slices lent to a run, each with a margin after it that nothing may touch:
+//! those for writing, filled with a known pattern, and those for reading.
 
 use crate::rng::{mix, Rng};
 
@@ -9,8 +9,23 @@ pub const NEEDED: [usize; 4] = [8_192, 8_192, 2_048, 256];
 pub const NAMES: [&str; 5] = ["work values", "work labels", "output", "trace", "text"];
 const MARGIN: usize = 16;
 
+/// What a run is given to read.
+#[derive(Clone, Copy)]
+pub struct Input<'a> {
+    pub container: &'a [u8],
+    pub draws: &'a [i64],
+}
+
+/// The same with a margin after each.
+#[derive(Clone, Default, PartialEq)]
+pub struct Read {
+    container: Vec<u8>,
+    draws: Vec<i64>,
+}
+
 #[derive(Clone, Default)]
 pub struct Lent {
+    pub read: Read,
     lengths: [usize; 4],
     room: usize,
     values: Vec<i64>,
@@ -20,7 +35,7 @@ pub struct Lent {
     text: Vec<u8>,
 }
 
-/// The slices themselves, in the order of `NAMES`.
+/// The slices for writing, in the order of `NAMES`.
 pub type Slices<'a> = (&'a mut [i64], &'a mut [u32], &'a mut [i64], &'a mut [u32], &'a mut [u8]);
 
 /// Longer than needed as a rule, sometimes of just the length needed.
@@ -28,11 +43,24 @@ pub fn long_enough(rng: &mut Rng) -> [usize; 4] {
     NEEDED.map(|needed| needed + if rng.chance(25) { 0 } else { 1 + rng.below(80) })
 }
 
+impl Read {
+    fn fill(&mut self, input: Input) {
+        refill(&mut self.container, input.container.iter().copied().chain([0; MARGIN]));
+        refill(&mut self.draws, input.draws.iter().copied().chain([1; MARGIN]));
+    }
+
+    fn input(&self) -> Input<'_> {
+        let [container, draws] = [self.container.len(), self.draws.len()].map(|n| n - MARGIN);
+        Input { container: &self.container[..container], draws: &self.draws[..draws] }
+    }
+}
+
 impl Lent {
     /// Fills every slice anew, margins included; `room` is the length of the
     /// text's slice. The pattern has no zeros, and in the text's slice no byte
     /// that a text can have.
-    pub fn fill(&mut self, lengths: [usize; 4], room: usize, seed: u64) {
+    pub fn fill(&mut self, input: Input, lengths: [usize; 4], room: usize, seed: u64) {
+        self.read.fill(input);
         self.lengths = lengths;
         self.room = room;
         let start = mix(seed);
@@ -52,7 +80,14 @@ impl Lent {
         refill(&mut self.text, numbers(room, 5).map(|n| (n >> 56) as u8 | 0x80));
     }
 
+    /// The slices of another run as it began, with an input of their own.
+    pub fn begin_as(&mut self, other: &Lent, input: Input) {
+        self.copy_from(other);
+        self.read.fill(input);
+    }
+
     pub fn copy_from(&mut self, other: &Lent) {
+        self.read.fill(other.read.input());
         self.lengths = other.lengths;
         self.room = other.room;
         self.values.clone_from(&other.values);
@@ -62,15 +97,16 @@ impl Lent {
         self.text.clone_from(&other.text);
     }
 
-    pub fn slices(&mut self) -> Slices<'_> {
+    pub fn slices(&mut self) -> (Input<'_>, Slices<'_>) {
         let [values, labels, output, trace] = self.lengths;
-        (
+        let written = (
             &mut self.values[..values],
             &mut self.labels[..labels],
             &mut self.output[..output],
             &mut self.trace[..trace],
             &mut self.text[..self.room],
-        )
+        );
+        (self.read.input(), written)
     }
 
     /// The rows and the text that a run with this answer released.
@@ -79,7 +115,8 @@ impl Lent {
         (&self.output[..rows * columns], &self.text[..length])
     }
 
-    /// Where the contents first differ, margins included.
+    /// Where the contents of the slices for writing first differ, margins
+    /// included.
     pub fn difference(&self, other: &Lent) -> Option<String> {
         let places = [
             first(&self.values, &other.values),

@@ -6,15 +6,16 @@
 //!     compare SEED COUNT          COUNT containers from SEED
 //!     compare SEED COUNT INDEX    of these only the one numbered INDEX
 //!
-//! For each container: the answers are equal, and so is every element of the
-//! lent slices at the end, which begin with a known pattern and have a margin
-//! behind them; what may change has changed and nothing else; containers made
-//! to be refused are refused with the number and the place they were made for;
-//! two containers that differ only in locked cells give the same answer and the
-//! same contents; the text of a release reads back as its rows, and with too
-//! little room for it the release is refused with 51; slices too short are
-//! refused with 1 and unchanged, those for the answer too; the product's input
-//! checks answer as the reference's do.
+//! For each container, with a list of draws: the answers are equal, and so is
+//! every element of the lent slices at the end, which begin with a known pattern
+//! and have a margin behind them; what may change has changed and nothing else;
+//! containers made to be refused are refused with the number and the place they
+//! were made for; two containers that differ only in locked cells give the same
+//! answer and the same contents, and so do other draws behind those that the
+//! plan uses; the text of a release reads back as its rows, and with too little
+//! room for it the release is refused with 51; slices too short are refused with
+//! 1 and unchanged, those for the answer too; the product's input checks answer
+//! as the reference's do.
 //!
 //! Prints how often each class occurred. The exit status is 1 after a
 //! difference, or if some class never occurred (not asked for a single INDEX).
@@ -34,15 +35,19 @@ mod draft;
 mod generate;
 mod labels;
 mod lent;
+mod noise;
 mod observe;
 mod product;
 mod rng;
 mod scenes;
 mod texts;
+mod wrong_steps;
 
 use classes::Classes;
 use damage::DAMAGES;
-use lent::{long_enough, Lent, NEEDED};
+use lent::{long_enough, Input, Lent, NEEDED};
+use observe::Seen;
+use product::by_reference;
 use reference::container::{parse, Container};
 use reference::eval::evaluate;
 use reference::release::released;
@@ -101,30 +106,29 @@ impl Harness {
     fn one(&mut self, seed: u64, index: u64) {
         let mut rng = Rng::new(rng::mix(seed) ^ index);
         let draft = generate::valid(&mut rng);
+        let draws = draft.draws.clone();
         let (bytes, expected) = match rng.below(100) {
             0..=59 => (draft.bytes(), None),
             60..=91 => near_valid(&mut rng, draft),
             _ => (damaged(&mut rng, draft), None),
         };
+        let input = Input { container: &bytes, draws: &draws };
         self.containers += 1;
-        let failed = self.compare(&mut rng, &bytes, expected);
-        if let Err(what) = failed {
+        if let Err(what) = self.compare(&mut rng, input, expected) {
             self.failures += 1;
             println!("seed {seed} index {index}: {what}");
-            let name = format!("compare-{seed}-{index}.bin");
-            let path = std::env::temp_dir().join(name);
-            if std::fs::write(&path, &bytes).is_ok() {
-                println!("    container written to {}", path.display());
-            }
+            write(&format!("compare-{seed}-{index}"), input);
         }
     }
 
-    fn compare(&mut self, rng: &mut Rng, bytes: &[u8], expected: Expected) -> Result<(), String> {
+    fn compare(&mut self, rng: &mut Rng, input: Input, expected: Expected) -> Result<(), String> {
+        let bytes = input.container;
         let pattern = rng.next();
         let parsed = parse(bytes);
-        let (finished, length) = parsed.as_ref().map_or((0, 0), outlook);
+        let (finished, length) =
+            parsed.as_ref().map_or((0, 0), |container| outlook(container, input.draws));
         let room = texts::enough(rng, length);
-        let answer = self.both(bytes, long_enough(rng), room, pattern)?;
+        let answer = self.both(input, long_enough(rng), room, pattern)?;
         self.classes.hit(number_class(answer[0]));
         texts::refused_before(answer[0], room, &mut self.classes);
         if let Some((class, number, offset)) = expected {
@@ -151,17 +155,21 @@ impl Harness {
                 if answer[0] == 0 {
                     self.text(answer, room)?;
                 }
-                let seen = observe::observe(bytes, &container, &mut self.classes);
-                self.locked(rng, bytes, &container, answer, seen.over)?;
+                let seen = observe::observe(input, &container, &mut self.classes);
+                self.locked(rng, input, &container, answer, &seen)?;
+                self.unused(rng, input, answer, seen.used)?;
                 if answer[0] == 0 {
-                    self.no_room(rng, bytes, &container, answer, seen.over)?;
+                    self.unlocked(rng, input, &container, answer)?;
+                    self.no_room(rng, input, &container, answer, &seen)?;
                 }
             }
-            (Err(one), Err(two)) if one == two && one.fault.number() == answer[0] => (),
+            (Err(one), Err(two)) if one == two && one.fault.number() == answer[0] => {
+                self.unused(rng, input, answer, 0)?;
+            }
             _ => return Err("check and run differ".into()),
         }
         if rng.chance(10) {
-            self.short(rng, bytes, pattern, answer, length)?;
+            self.short(rng, input, pattern, answer, length)?;
         }
         Ok(())
     }
@@ -170,17 +178,17 @@ impl Harness {
     /// the contents at the end, `before` those at the beginning.
     fn both(
         &mut self,
-        bytes: &[u8],
+        input: Input,
         lengths: [usize; 4],
         room: usize,
         pattern: u64,
     ) -> Result<[u32; 4], String> {
         self.runs += 1;
-        self.before.fill(lengths, room, pattern);
+        self.before.fill(input, lengths, room, pattern);
         self.ours.copy_from(&self.before);
         self.theirs.copy_from(&self.before);
-        let ours = by_reference(bytes, &mut self.ours);
-        let theirs = answers::run(bytes, &mut self.theirs, pattern)?;
+        let ours = by_reference(&mut self.ours);
+        let theirs = answers::run(&mut self.theirs, pattern)?;
         if ours != theirs {
             return Err(format!("answers: reference {ours:?}, product {theirs:?}"));
         }
@@ -188,6 +196,27 @@ impl Harness {
             Some(what) => Err(format!("contents, reference and product: {what}")),
             None => Ok(ours),
         }
+    }
+
+    /// Runs both on another input in the slices of the run before; answer and
+    /// contents are to be those of that run.
+    fn alike(&mut self, rng: &mut Rng, other: Input, answer: [u32; 4]) -> Result<(), String> {
+        self.runs += 1;
+        // `pair` now holds the end of the run before, `before` its beginning.
+        std::mem::swap(&mut self.pair, &mut self.ours);
+        self.ours.begin_as(&self.before, other);
+        self.theirs.begin_as(&self.before, other);
+        let ours = by_reference(&mut self.ours);
+        let theirs = answers::run(&mut self.theirs, rng.next())?;
+        if ours != answer || theirs != answer {
+            return Err(format!("{answer:?}, reference {ours:?}, product {theirs:?}"));
+        }
+        for lent in [&self.ours, &self.theirs] {
+            if let Some(what) = self.pair.difference(lent) {
+                return Err(format!("contents: {what}"));
+            }
+        }
+        Ok(())
     }
 
     /// Demand 2: the text of a release, read, "yields the rows in order".
@@ -205,14 +234,14 @@ impl Harness {
     fn no_room(
         &mut self,
         rng: &mut Rng,
-        bytes: &[u8],
+        input: Input,
         container: &Container,
         release: [u32; 4],
-        over: bool,
+        seen: &Seen,
     ) -> Result<(), String> {
         let steps = container.plan.len();
         let room = texts::too_little(rng, release[3] as usize, release[2] as usize);
-        let answer = self.both(bytes, long_enough(rng), room, rng.next())?;
+        let answer = self.both(input, long_enough(rng), room, rng.next())?;
         if answer != [51, steps as u32, 0, 0] {
             return Err(format!("{room} bytes for the text of {release:?}: {answer:?}"));
         }
@@ -221,55 +250,36 @@ impl Harness {
         }
         self.classes.hit(number_class(answer[0]));
         texts::refused(release, steps, room, &mut self.classes);
-        self.locked(rng, bytes, container, answer, over)
+        self.locked(rng, input, container, answer, seen)
     }
 
-    /// Demand 3: the same container with other values in its locked cells.
+    /// Demand 3: the same container with other values in its locked cells, and
+    /// the same draws.
     fn locked(
         &mut self,
         rng: &mut Rng,
-        bytes: &[u8],
+        input: Input,
         container: &Container,
         answer: [u32; 4],
-        over: bool,
+        seen: &Seen,
     ) -> Result<(), String> {
-        let cells = labels::locked_cells(bytes, container);
+        let mut cells = labels::labelled_cells(input.container, container);
+        cells.retain(|(_, _, lock)| lock.any());
         if cells.is_empty() {
             self.classes.hit("no locked cell");
             return Ok(());
         }
-        let mut other = bytes.to_vec();
+        let mut other = input.container.to_vec();
         let all = rng.chance(70);
-        for &(offset, lock) in &cells {
+        for (offset, _, lock) in cells {
             if all || rng.chance(40) {
                 let value = generate::number(rng);
                 other[offset..offset + 8].copy_from_slice(&value.to_le_bytes());
-                let alone = (lock.h as u8, lock.t as u8, lock.a as u8, lock.n as u8);
-                match alone {
-                    (1, 0, 0, 0) => self.classes.hit("pair: locked by H alone"),
-                    (0, 1, 0, 0) => self.classes.hit("pair: locked by T alone"),
-                    (0, 0, 1, 0) => self.classes.hit("pair: locked by A alone"),
-                    (0, 0, 0, 1) => self.classes.hit("pair: locked by N alone"),
-                    _ => self.classes.hit("pair: locked by several stages"),
-                }
+                self.classes.hit(lock.class());
             }
         }
-        self.pair.copy_from(&self.before);
-        std::mem::swap(&mut self.pair, &mut self.ours);
-        // `pair` holds the first container's end, `before` the beginning.
-        self.runs += 1;
-        self.ours.copy_from(&self.before);
-        self.theirs.copy_from(&self.before);
-        let ours = by_reference(&other, &mut self.ours);
-        let theirs = answers::run(&other, &mut self.theirs, rng.next())?;
-        if ours != answer || theirs != answer {
-            return Err(format!("locked pair: {answer:?}, reference {ours:?}, product {theirs:?}"));
-        }
-        for lent in [&self.ours, &self.theirs] {
-            if let Some(what) = self.pair.difference(lent) {
-                return Err(format!("locked pair, contents: {what}"));
-            }
-        }
+        let other = Input { container: &other, ..input };
+        self.alike(rng, other, answer).map_err(|what| format!("locked pair: {what}"))?;
         self.classes.hit(match answer[0] {
             0 => "pair: released",
             31 => "pair: refused with 31",
@@ -278,13 +288,62 @@ impl Harness {
             34 => "pair: refused with 34",
             35 => "pair: refused with 35",
             36 => "pair: refused with 36",
+            37 => "pair: refused with 37",
             _ => "pair: refused with 51",
         });
-        if let Ok(container) = parse(&other) {
-            let differs =
-                observe::observe(&other, &container, &mut Classes::default()).over != over;
-            self.classes.hit_if(differs, "pair: OVER made in one of the two");
+        self.classes.hit_if(answer[0] == 0 && seen.noises > 0, "pair: released, with NOISE");
+        if let Ok(container) = parse(other.container) {
+            let second = observe::observe(other, &container, &mut Classes::default());
+            let by_draw = second.over_by_draw != seen.over_by_draw;
+            self.classes.hit_if(second.over != seen.over, "pair: OVER made in one of the two");
+            self.classes.hit_if(by_draw, "pair: OVER made by a draw in one of the two");
         }
+        Ok(())
+    }
+
+    /// The other direction: N with its bit set is no lock in a plan with a NOISE.
+    /// A release with other values in such cells may show them.
+    fn unlocked(
+        &mut self,
+        rng: &mut Rng,
+        input: Input,
+        container: &Container,
+        release: [u32; 4],
+    ) -> Result<(), String> {
+        let mut cells = labels::labelled_cells(input.container, container);
+        cells.retain(|(_, label, lock)| label.word() == noise::NOISY && !lock.any());
+        if cells.is_empty() {
+            return Ok(());
+        }
+        let rows = self.theirs.released(release).0.to_vec();
+        let mut other = input.container.to_vec();
+        for (offset, _, _) in cells {
+            other[offset..offset + 8].copy_from_slice(&rng.between(-99, 99).to_le_bytes());
+        }
+        let other = Input { container: &other, ..input };
+        let answer = self.both(other, long_enough(rng), texts::LONGEST, rng.next())?;
+        let differs = answer[0] == 0 && self.theirs.released(answer).0 != rows;
+        self.classes.hit_if(differs, "N with the bit, not locked by it: its value shows");
+        Ok(())
+    }
+
+    /// Draws that the plan does not use play no part: the same run with others
+    /// behind the first `used` ones.
+    fn unused(
+        &mut self,
+        rng: &mut Rng,
+        input: Input,
+        answer: [u32; 4],
+        used: usize,
+    ) -> Result<(), String> {
+        // After 37 the next draw would be used.
+        if answer[0] == 37 || rng.chance(60) {
+            return Ok(());
+        }
+        let draws = noise::others_behind(rng, &input.draws[..used]);
+        let other = Input { draws: &draws, ..input };
+        self.alike(rng, other, answer).map_err(|what| format!("unused draws: {what}"))?;
+        noise::unused(answer[0], used, &mut self.classes);
         Ok(())
     }
 
@@ -292,7 +351,7 @@ impl Harness {
     fn short(
         &mut self,
         rng: &mut Rng,
-        bytes: &[u8],
+        input: Input,
         pattern: u64,
         answer: [u32; 4],
         length: usize,
@@ -305,24 +364,24 @@ impl Harness {
                 1 => rng.below(NEEDED[slice]),
                 _ => NEEDED[slice] - 1,
             };
-            self.refused_short(bytes, lengths, texts::enough(rng, 0), pattern)?;
+            self.refused_short(input, lengths, texts::enough(rng, 0), pattern)?;
             self.classes.hit(CLASSES[slice]);
             self.classes.hit_if(lengths[slice] == 0, "1 with an empty slice");
         }
-        self.refused_short(bytes, NEEDED.map(|needed| needed - 1), length, pattern)?;
-        self.refused_short(bytes, [0; 4], 0, pattern)?;
+        self.refused_short(input, NEEDED.map(|needed| needed - 1), length, pattern)?;
+        self.refused_short(input, [0; 4], 0, pattern)?;
         self.classes.hit("1 all slices");
-        self.before.fill(NEEDED, length, pattern);
+        self.before.fill(input, NEEDED, length, pattern);
         self.theirs.copy_from(&self.before);
-        answers::short_run(bytes, &mut self.theirs, pattern)?;
+        answers::short_run(&mut self.theirs, pattern)?;
         if let Some(what) = self.theirs.difference(&self.before) {
             return Err(format!("answer too short: {what}"));
         }
         self.classes.hit("1 answer of a run");
-        answers::short_check(bytes, pattern)?;
+        answers::short_check(input.container, pattern)?;
         self.classes.hit("1 answer of the input checks");
         self.classes.hit_if((11..20).contains(&answer[0]), "1 before a refusal of the input");
-        if self.both(bytes, NEEDED, length, pattern)? != answer {
+        if self.both(input, NEEDED, length, pattern)? != answer {
             return Err("another answer with slices of just the length needed".into());
         }
         self.classes.hit("slices of just the length needed");
@@ -331,12 +390,12 @@ impl Harness {
 
     fn refused_short(
         &mut self,
-        bytes: &[u8],
+        input: Input,
         lengths: [usize; 4],
         room: usize,
         pattern: u64,
     ) -> Result<(), String> {
-        let answer = self.both(bytes, lengths, room, pattern)?;
+        let answer = self.both(input, lengths, room, pattern)?;
         if answer != [1, 0, 0, 0] {
             return Err(format!("slices {lengths:?}: {answer:?}"));
         }
@@ -350,17 +409,23 @@ impl Harness {
 
 /// How many steps the evaluation finishes, and the length of the text that it
 /// is released with, 0 if it is not.
-fn outlook(container: &Container) -> (usize, usize) {
-    let evaluation = evaluate(container);
+fn outlook(container: &Container, draws: &[i64]) -> (usize, usize) {
+    let evaluation = evaluate(container, draws);
     let text = evaluation
         .outcome
         .map_or(String::new(), |table| reference::text::of(table.columns, &released(&table)));
     (evaluation.trace.len(), text.len())
 }
 
-fn by_reference(container: &[u8], lent: &mut Lent) -> [u32; 4] {
-    let (values, labels, output, trace, text) = lent.slices();
-    reference::run(container, values, labels, output, trace, text).numbers()
+/// Writes the container and its draws, as `reference noise` reads them.
+fn write(name: &str, input: Input) {
+    let path = std::env::temp_dir().join(name);
+    let draws: String = input.draws.iter().map(|draw| format!("{draw}\n")).collect();
+    let written = std::fs::write(path.with_extension("bin"), input.container)
+        .and_then(|()| std::fs::write(path.with_extension("draws"), draws));
+    if written.is_ok() {
+        println!("    container and draws written to {}.bin and .draws", path.display());
+    }
 }
 
 fn near_valid(rng: &mut Rng, mut draft: draft::Draft) -> (Vec<u8>, Expected) {
@@ -415,6 +480,7 @@ fn number_class(number: u32) -> &'static str {
         34 => "answer: 34",
         35 => "answer: 35",
         36 => "answer: 36",
+        37 => "answer: 37",
         51 => "answer: 51",
         _ => "answer: no number of the documents",
     }

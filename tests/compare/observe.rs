@@ -1,6 +1,8 @@
 //! Which classes an accepted container and its evaluation fall into.
 
 use crate::classes::Classes;
+use crate::lent::Input;
+use crate::noise;
 use crate::reference::container::Container;
 use crate::reference::eval::{perform, StateFault, Stop};
 use crate::reference::label::Label;
@@ -11,26 +13,40 @@ use crate::reference::value::{Value, HIGHEST, LOWEST};
 /// What one evaluation met, for the classes of releases and of pairs.
 #[derive(Default)]
 pub struct Seen {
-    kinds: u8,
+    kinds: u16,
     discharged_t: bool,
     discharged_a: bool,
+    discharged_n: bool,
+    /// How far chains were followed: T over A and N, then A over N, then N; and
+    /// A over N, then N.
+    chain: u8,
+    short_chain: u8,
     three: bool,
     /// Labels that a GROUP composed, with the unequal labels they are of.
     composed: Vec<(Label, Vec<Label>)>,
     pub over: bool,
+    /// A draw made an OVER of a value that was none.
+    pub over_by_draw: bool,
+    /// Finished NOISE steps that used draws, and the draws used.
+    pub noises: usize,
+    pub used: usize,
 }
 
-pub fn observe(bytes: &[u8], container: &Container, classes: &mut Classes) -> Seen {
-    accepted(bytes, container, classes);
+pub fn observe(input: Input, container: &Container, classes: &mut Classes) -> Seen {
+    accepted(input.container, container, classes);
     let mut seen = Seen::default();
     let mut stack: Vec<Table> = Vec::new();
+    let mut draws = input.draws.iter();
     let mut scanned = 0u8;
     for (number, step) in container.plan.iter().enumerate() {
         let before: Vec<Table> = stack[stack.len().saturating_sub(2)..].to_vec();
-        let made = match perform(step, &container.tables, &mut stack) {
+        let left = draws.as_slice();
+        let result = perform(step, &container.tables, &mut stack, &mut draws);
+        seen.used = input.draws.len() - draws.len();
+        let made = match result {
             Ok(made) => made,
             Err(stop) => {
-                stopped(step, &before, stop, classes);
+                stopped(step, &before, stop, left.len(), seen.noises, classes);
                 if number == 63 {
                     classes.hit("refused at step 63");
                 }
@@ -43,13 +59,22 @@ pub fn observe(bytes: &[u8], container: &Container, classes: &mut Classes) -> Se
             classes.hit_if(table == 7, "SCAN of table 7");
             scanned |= 1 << table;
         }
-        made_by(step, &before, &made, &mut seen, classes);
+        let used = &left[..left.len() - draws.len()];
+        made_by(step, &before, &made, used, &mut seen, classes);
         seen.over |= made.cells.iter().any(|cell| cell.value == Value::Over);
         stack.push(made);
         seen.three |= stack.len() == 3;
     }
+    noise::finished(&container.plan, input.draws.len(), seen.used, classes);
     released(container, &stack[0], &seen, classes);
     seen
+}
+
+/// Goes on in a chain that was followed as far as this.
+fn follow(reached: &mut u8, from: u8, discharged: bool) {
+    if discharged && *reached == from {
+        *reached += 1;
+    }
 }
 
 /// Both ends of the ranges in the container.
@@ -116,7 +141,15 @@ fn accepted(bytes: &[u8], container: &Container, classes: &mut Classes) {
     }
 }
 
-fn stopped(step: &Step, before: &[Table], stop: Stop, classes: &mut Classes) {
+/// With the draws left for the step, and the NOISE steps that used some.
+fn stopped(
+    step: &Step,
+    before: &[Table],
+    stop: Stop,
+    left: usize,
+    noises: usize,
+    classes: &mut Classes,
+) {
     let top = &before[before.len() - 1];
     let row = stop.row;
     match (*step, stop.fault) {
@@ -188,6 +221,7 @@ fn stopped(step: &Step, before: &[Table], stop: Stop, classes: &mut Classes) {
             let rows = matches(&before[0], top, left_key, right_key).iter().sum::<usize>();
             classes.hit_if(rows == 257, "34 JOIN of 257 rows");
         }
+        (Step::Noise { column }, _) => noise::stopped(column, top, stop, left, noises, classes),
         other => unreachable!("{other:?}"),
     }
     classes.hit_if(row > 0, "refused past row 0");
@@ -206,7 +240,15 @@ fn matches(left: &Table, right: &Table, left_key: usize, right_key: usize) -> Ve
         .collect()
 }
 
-fn made_by(step: &Step, before: &[Table], made: &Table, seen: &mut Seen, classes: &mut Classes) {
+/// With the draws that the step used.
+fn made_by(
+    step: &Step,
+    before: &[Table],
+    made: &Table,
+    used: &[i64],
+    seen: &mut Seen,
+    classes: &mut Classes,
+) {
     let top = match before.last() {
         Some(top) => top,
         None => return,
@@ -279,13 +321,24 @@ fn made_by(step: &Step, before: &[Table], made: &Table, seen: &mut Seen, classes
             for row in 0..top.rows() {
                 let first = top.row(row)[column];
                 let result = made.row(row)[made.columns - 1];
-                seen.discharged_t |= first.label != result.label;
+                let discharged = first.label != result.label;
+                let left = result.label.aggregate.is_some() && result.label.noise.is_some();
+                seen.discharged_t |= discharged;
+                follow(&mut seen.chain, 0, discharged && left);
                 applied(operation, top, row, first.label, result.label, classes);
                 values(operation, top, row, first.value, result.value, classes);
             }
         }
         Step::Group { keys, aggregate, column } => {
             grouped(keys, aggregate, column, top, made, seen, classes);
+        }
+        Step::Noise { column } => {
+            let noised = noise::made(column, top, made, used, seen.noises, classes);
+            seen.noises += !used.is_empty() as usize;
+            seen.over_by_draw |= noised.over;
+            seen.discharged_n |= noised.discharged;
+            follow(&mut seen.chain, 2, noised.discharged);
+            follow(&mut seen.short_chain, 1, noised.discharged);
         }
     }
 }
@@ -552,6 +605,8 @@ fn group_labels(
         if stage.allows(aggregate) && enough {
             discharged = true;
             classes.hit_if(label.noise.is_some(), "A discharged, N left");
+            follow(&mut seen.chain, 1, label.noise.is_some());
+            follow(&mut seen.short_chain, 0, label.noise.is_some());
         } else if !stages.contains(&label) {
             stages.push(label);
         }
@@ -593,11 +648,12 @@ fn released(container: &Container, last: &Table, seen: &Seen, classes: &mut Clas
         (5, "released: KEEP"),
         (6, "released: APPLY"),
         (7, "released: GROUP"),
+        (8, "released: NOISE"),
     ] {
         classes.hit_if(seen.kinds & (1 << kind) != 0, name);
     }
     classes.hit_if(seen.kinds == 2, "released: SCAN alone");
-    classes.hit_if(seen.kinds == 0xFE, "released: all seven kinds");
+    classes.hit_if(seen.kinds == 0x1FE, "released: all eight kinds");
     classes.hit_if(container.plan.len() == 1, "released: 1 step");
     classes.hit_if(container.plan.len() == 64, "released: 64 steps");
     classes.hit_if(seen.three, "released: three tables on the stack");
@@ -605,6 +661,11 @@ fn released(container: &Container, last: &Table, seen: &Seen, classes: &mut Clas
     classes.hit_if(seen.discharged_t, "released: T discharged");
     classes.hit_if(seen.discharged_a, "released: A discharged");
     classes.hit_if(seen.discharged_t && seen.discharged_a, "released: T and A discharged");
+    classes.hit_if(seen.discharged_n, "released: N discharged");
+    classes.hit_if(seen.short_chain == 2, "released: A, then N discharged");
+    classes.hit_if(seen.chain == 3, "released: T, then A, then N discharged");
+    classes.hit_if(seen.noises > 1, "released: two NOISE");
+    classes.hit_if(seen.over_by_draw, "released: an OVER by a draw on the way");
     classes.hit_if(last.rows() == 0, "released: 0 rows");
     classes.hit_if(last.rows() == 1, "released: 1 row");
     classes.hit_if(last.rows() == 256, "released: 256 rows");

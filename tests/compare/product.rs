@@ -1,11 +1,11 @@
-//! The product, called as include/cilunovay.h declares it. This is the one
-//! place to change when the interface does.
+//! The product, called as include/cilunovay.h declares it, and the reference on
+//! the same slices. This is the one place to change when the interface does.
 //!
 //! Built with `--cfg reference_only` there is no product: the reference takes
 //! its place, so that nothing is compared with anything else. That is of use
 //! only to tune the generator and its classes.
 
-use crate::lent::Lent;
+use crate::lent::{Input, Lent};
 
 /// The elements that the answer of a run needs, and that of the input checks.
 pub const RUN_ANSWER: usize = 4;
@@ -16,6 +16,8 @@ extern "C" {
     fn cilunovay_run(
         container: *const u8,
         container_len: usize,
+        draws: *const i64,
+        draws_len: usize,
         values: *mut i64,
         values_len: usize,
         labels: *mut u32,
@@ -40,13 +42,15 @@ extern "C" {
 
 /// Runs the product; answers what the function itself answers.
 #[cfg(not(reference_only))]
-pub fn call_run(container: &[u8], lent: &mut Lent, answer: &mut [u64]) -> u32 {
-    let (values, labels, output, trace, text) = lent.slices();
+pub fn call_run(lent: &mut Lent, answer: &mut [u64]) -> u32 {
+    let (input, (values, labels, output, trace, text)) = lent.slices();
     // Each pointer comes from a slice of the length given with it.
     unsafe {
         cilunovay_run(
-            container.as_ptr(),
-            container.len(),
+            input.container.as_ptr(),
+            input.container.len(),
+            input.draws.as_ptr(),
+            input.draws.len(),
             values.as_mut_ptr(),
             values.len(),
             labels.as_mut_ptr(),
@@ -72,14 +76,19 @@ pub fn call_check(container: &[u8], answer: &mut [u64]) -> u32 {
 }
 
 #[cfg(reference_only)]
-pub fn call_run(container: &[u8], lent: &mut Lent, answer: &mut [u64]) -> u32 {
+pub fn call_run(lent: &mut Lent, answer: &mut [u64]) -> u32 {
     if answer.len() < RUN_ANSWER {
         return 1;
     }
-    let (values, labels, output, trace, text) = lent.slices();
-    let numbers = crate::reference::run(container, values, labels, output, trace, text).numbers();
+    let numbers = by_reference(lent);
     answer[..RUN_ANSWER].copy_from_slice(&numbers.map(u64::from));
     numbers[0]
+}
+
+/// Runs the reference in the same slices; answers its numbers.
+pub fn by_reference(lent: &mut Lent) -> [u32; RUN_ANSWER] {
+    let (Input { container, draws }, (values, labels, output, trace, text)) = lent.slices();
+    crate::reference::run(container, draws, values, labels, output, trace, text).numbers()
 }
 
 #[cfg(reference_only)]

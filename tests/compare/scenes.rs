@@ -4,6 +4,7 @@
 use crate::draft::{step, RawStep, RawTable};
 use crate::generate::{number, table, Theme};
 use crate::labels::label;
+use crate::noise::NOISY;
 use crate::reference::value::{HIGHEST, LOWEST};
 use crate::rng::Rng;
 
@@ -12,7 +13,7 @@ pub struct Scene {
     pub steps: Vec<RawStep>,
 }
 
-const SCENES: [fn(&mut Rng) -> Scene; 15] = [
+const SCENES: [fn(&mut Rng) -> Scene; 22] = [
     union_at_the_limit,
     join_at_the_limit,
     whole_output,
@@ -28,6 +29,13 @@ const SCENES: [fn(&mut Rng) -> Scene; 15] = [
     group_a_composed_label,
     any_digits,
     longest_text,
+    noise_refused,
+    noise_refused,
+    noises_released,
+    many_noises,
+    noise_at_the_ends,
+    noise_ends_a_chain,
+    noise_beside_locked,
 ];
 
 pub fn scene(rng: &mut Rng) -> Scene {
@@ -36,6 +44,14 @@ pub fn scene(rng: &mut Rng) -> Scene {
 
 fn scan(table: u8) -> RawStep {
     step(1, table, 0, 0, 0, 0)
+}
+
+fn keep(mask: u8) -> RawStep {
+    step(5, mask, 0, 0, 0, 0)
+}
+
+fn noise(column: usize) -> RawStep {
+    step(8, column as u8, 0, 0, 0, 0)
 }
 
 /// A table without labels, of small values.
@@ -325,4 +341,133 @@ fn longest_text(rng: &mut Rng) -> Scene {
         cells[rng.below(256 * 8)].0 = number(rng);
     }
     Scene { tables: vec![RawTable { columns: 8, cells }], steps: vec![scan(0)] }
+}
+
+/// N without its noise bit.
+const NO_BIT: u32 = 0x1000_0000;
+
+/// A column in which some rows forbid NOISE, perhaps after a NOISE over another.
+fn noise_refused(rng: &mut Rng) -> Scene {
+    let (columns, rows) = (2 + rng.below(3), 1 + rng.below(8));
+    let mut made = clear(rng, columns, rows);
+    let (one, two) = (rng.below(columns), rng.below(columns));
+    for row in 0..rows {
+        let above = rng.pick(&[1 << 31, 1 << 30, 0x2002_0001, 0xE000_0002]);
+        made.cells[row * columns + one].1 = match rng.below(10) {
+            0 => above,
+            1 => above | NOISY,
+            2 => label(rng, rows),
+            3..=5 => NOISY,
+            6 => NO_BIT,
+            _ => 0,
+        };
+    }
+    let mut steps = vec![scan(0), noise(one)];
+    if rng.chance(40) {
+        steps.insert(1, noise(two));
+    }
+    Scene { tables: vec![made], steps }
+}
+
+/// Two or three NOISE steps, perhaps with fewer rows for the later ones.
+fn noises_released(rng: &mut Rng) -> Scene {
+    let rows = rng.pick(&[0, 1, 2, 3, 5, 9, 256]);
+    let mut made = clear(rng, 3, rows);
+    let words = [0, NOISY, rng.pick(&[NOISY, NOISY, 0, NO_BIT])];
+    for (place, cell) in made.cells.iter_mut().enumerate() {
+        cell.1 = words[place % 3];
+    }
+    // What comes between the first NOISE and the last, and the columns then.
+    let (between, columns) = match rng.below(4) {
+        0 => (vec![step(4, 0, rng.below(6) as u8, 0, 0, rng.between(0, 2))], 4),
+        1 => (vec![noise(3), noise(0)], 6),
+        2 => (vec![scan(0), noise(rng.below(3)), step(2, 0, 0, 0, 0, 0)], 4),
+        _ => (vec![step(6, 3, 0, 0, 0, 1)], 5),
+    };
+    let mut steps = vec![scan(0), noise(1)];
+    steps.extend(between);
+    steps.extend([noise(1 + rng.below(2)), keep(1 << columns | 1 << 3 | rng.below(2) as u8)]);
+    Scene { tables: vec![made], steps }
+}
+
+/// As many NOISE steps as fit into a plan, and of the last column the values that
+/// are not OVER.
+fn many_noises(rng: &mut Rng) -> Scene {
+    let rows = rng.pick(&[1, 40, 256]);
+    let tables = vec![clear(rng, 1, rows)];
+    let mut steps = vec![scan(0)];
+    let mut columns = 1;
+    while steps.len() < 62 {
+        if columns < 8 {
+            steps.push(noise(rng.below(columns)));
+            columns += 1;
+        } else {
+            steps.push(keep(1 << rng.below(columns)));
+            columns = 1;
+        }
+    }
+    steps.extend([keep(1 << (columns - 1)), step(4, 0, 5, 0, 0, LOWEST)]);
+    Scene { tables, steps }
+}
+
+/// Values anywhere in the range, some OVER by an APPLY, and what is left of them
+/// after a NOISE.
+fn noise_at_the_ends(rng: &mut Rng) -> Scene {
+    let rows = 1 + rng.below(8);
+    let word = rng.pick(&[0, NOISY, NOISY, NO_BIT]);
+    let cells = (0..rows).map(|_| (number(rng), word)).collect();
+    let mut steps = vec![scan(0)];
+    if rng.chance(50) {
+        steps.push(step(6, 0, rng.below(2) as u8, 0, 0, number(rng)));
+    }
+    let column = steps.len() - 1;
+    steps.extend([noise(column), keep(2 << column)]);
+    if rng.chance(70) {
+        steps.push(step(4, 0, 5, 0, 0, LOWEST));
+    }
+    Scene { tables: vec![RawTable { columns: 1, cells }], steps }
+}
+
+/// A label of N below A, mostly below T as well, taken off stage by stage;
+/// sometimes one of the operations is not allowed.
+fn noise_ends_a_chain(rng: &mut Rng) -> Scene {
+    let rows = 2 + rng.below(6);
+    let (transformed, keys) = (rng.chance(70), rng.below(2));
+    let (code, aggregate) = (rng.below(4) as u8, rng.below(5) as u8);
+    let digits = rng.between(1, 5);
+    let mut word = 0x3000_0000 | rng.pick(&[1, 1, 2, rows as u32]);
+    word |= (rng.chance(90) as u32) << (16 + aggregate) | (rng.chance(85) as u32) << 23;
+    if transformed {
+        let allowed = rng.chance(90) as u32;
+        word |= 1 << 30 | allowed << (24 + code);
+        word |= if code == 2 { allowed * (digits as u32) << 10 } else { 0 };
+    }
+    let cells =
+        (0..rows).flat_map(|_| [(rng.between(0, 1), 0), (rng.between(-9_999, 9_999), word)]);
+    let tables = vec![RawTable { columns: 2, cells: cells.collect() }];
+    let mut steps = vec![scan(0)];
+    if transformed {
+        steps.push(step(6, 1, code, 0, 0, digits + rng.between(0, 1)));
+    }
+    let column = steps.len() as u8;
+    steps.push(step(7, keys as u8, aggregate, column, 0, 0));
+    steps.extend([noise(keys), keep(2 << keys | keys as u8)]);
+    Scene { tables, steps }
+}
+
+/// Cells locked by N, without the bit under a NOISE or with it in a plan without
+/// one, beside clear ones that are released.
+fn noise_beside_locked(rng: &mut Rng) -> Scene {
+    let rows = 1 + rng.below(6);
+    let noised = rng.chance(70);
+    let word = if noised { NO_BIT } else { rng.pick(&[NOISY, NOISY, NO_BIT]) };
+    let cells = (0..rows).flat_map(|row| [(row as i64, 0), (number(rng), word)]).collect();
+    let mut steps = vec![scan(0)];
+    if noised {
+        steps.extend([noise(1), noise(rng.below(3))]);
+    } else {
+        steps.extend([step(6, 1, 0, 0, 0, number(rng)), step(6, 0, 0, 0, 0, 1)]);
+    }
+    steps.push(keep(rng.pick(&[1, 1, 9])));
+    Scene { tables: vec![RawTable { columns: 2, cells }], steps }
 }

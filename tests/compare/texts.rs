@@ -158,6 +158,7 @@ pub fn refused_before(number: u32, room: usize, classes: &mut Classes) {
         34 => ["34 with an empty text slice", "34 with a long text slice"],
         35 => ["35 with an empty text slice", "35 with a long text slice"],
         36 => ["36 with an empty text slice", "36 with a long text slice"],
+        37 => ["37 with an empty text slice", "37 with a long text slice"],
         _ => return,
     };
     classes.hit_if(room == 0, empty);

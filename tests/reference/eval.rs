@@ -16,6 +16,7 @@ pub enum StateFault {
     TooManyRows,
     StageLeft,
     OverLeft,
+    NoDraw,
 }
 
 impl StateFault {
@@ -27,6 +28,7 @@ impl StateFault {
             StateFault::TooManyRows => 34,
             StateFault::StageLeft => 35,
             StateFault::OverLeft => 36,
+            StateFault::NoDraw => 37,
         }
     }
 }
@@ -51,6 +53,10 @@ fn stop<T>(fault: StateFault, row: usize, column: usize) -> Result<T, Stop> {
     Err(Stop { fault, row, column })
 }
 
+/// The draws that no row has used yet: "One draw is used per row, in row order
+/// over the whole plan", document 02's #102.
+pub type Draws<'a> = std::slice::Iter<'a, i64>;
+
 /// "from step 0 to its release or its refusal because of the state, with the
 /// trace lines of its finished steps"
 pub struct Evaluation {
@@ -58,11 +64,12 @@ pub struct Evaluation {
     pub outcome: Result<Table, StateRefusal>,
 }
 
-pub fn evaluate(container: &Container) -> Evaluation {
+pub fn evaluate(container: &Container, draws: &[i64]) -> Evaluation {
     let mut stack: Vec<Table> = Vec::new();
+    let mut draws = draws.iter();
     let mut trace = Vec::new();
     for (number, step) in container.plan.iter().enumerate() {
-        match perform(step, &container.tables, &mut stack) {
+        match perform(step, &container.tables, &mut stack, &mut draws) {
             Err(Stop { fault, row, column }) => {
                 let refusal = StateRefusal { fault, step: number, row, column };
                 return Evaluation { trace, outcome: Err(refusal) };
@@ -99,8 +106,14 @@ fn judge(last: Table) -> Result<Table, Stop> {
     Ok(last)
 }
 
-/// Takes the tables that the step reads from the stack; answers the table made.
-pub fn perform(step: &Step, tables: &[Table], stack: &mut Vec<Table>) -> Result<Table, Stop> {
+/// Takes the tables that the step reads from the stack, and the draws that it
+/// uses; answers the table made.
+pub fn perform(
+    step: &Step,
+    tables: &[Table],
+    stack: &mut Vec<Table>,
+    draws: &mut Draws,
+) -> Result<Table, Stop> {
     let mut pop = || stack.pop().expect("the input checks count the tables");
     match *step {
         Step::Scan { table } => Ok(tables[table].clone()),
@@ -116,6 +129,7 @@ pub fn perform(step: &Step, tables: &[Table], stack: &mut Vec<Table>) -> Result<
         Step::Keep { mask } => Ok(keep(&pop(), mask)),
         Step::Apply { column, operation } => apply(&pop(), column, operation),
         Step::Group { keys, aggregate, column } => group(&pop(), keys, aggregate, column),
+        Step::Noise { column } => noise(&pop(), column, draws),
     }
 }
 
@@ -285,6 +299,32 @@ fn group(table: &Table, mask: u8, kind: Aggregate, column: usize) -> Result<Tabl
         let first = table.row(rows[0]);
         made.cells.extend(keys.iter().map(|&key| first[key]));
         made.cells.push(Cell { value: aggregate(kind, &values), label });
+    }
+    Ok(made)
+}
+
+/// Document 02, #102: "It appends a column: each row's value plus the next
+/// number from a lent list of signed draws." "The new label is that value's,
+/// discharged at level N."
+fn noise(table: &Table, column: usize, draws: &mut Draws) -> Result<Table, Stop> {
+    let mut made = Table::new(table.columns + 1);
+    made.cells.reserve(table.rows() * (table.columns + 1));
+    for row in 0..table.rows() {
+        let cells = table.row(row);
+        let Cell { value, label } = cells[column];
+        // "forbidden with 32 where T, A or H stands highest"
+        let label = match label.after_noise() {
+            Ok(label) => label,
+            Err(_) => return stop(StateFault::Forbidden, row, column),
+        };
+        // "37 at a row for which no draw is left, column a, after 32 in that
+        // row"
+        let draw = match draws.next() {
+            Some(&draw) => draw,
+            None => return stop(StateFault::NoDraw, row, column),
+        };
+        made.cells.extend_from_slice(cells);
+        made.cells.push(Cell { value: value.add_draw(draw), label });
     }
     Ok(made)
 }

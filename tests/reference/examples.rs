@@ -2,10 +2,10 @@
 //!
 //!     rustc -O --edition 2021 --test -o reference-tests tests/reference/main.rs
 
-use super::print_run;
 use super::reference::label::{Forbidden, Label};
 use super::reference::steps::{Aggregate, Operand, Operation};
 use super::reference::value::{aggregate, Value, HIGHEST, LOWEST};
+use super::{print_run, NO_DRAWS};
 
 fn label(word: u32) -> Label {
     let label = Label::from_word(word).expect("well-formed");
@@ -77,7 +77,7 @@ pub fn printed_case(word: u32) -> Vec<u8> {
 
 fn printed(word: u32) -> String {
     let mut text = String::new();
-    print_run(&printed_case(word), &mut text);
+    print_run(&printed_case(word), NO_DRAWS, &mut text);
     text
 }
 

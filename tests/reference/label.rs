@@ -158,6 +158,18 @@ impl Label {
         }
     }
 
+    /// Discharge at level N, document 02's #102. One operation is of that
+    /// level, and N allows it or not: "Bit 23: noise allowed at N."
+    pub fn after_noise(&self) -> Result<Label, Forbidden> {
+        if self.held || self.transform.is_some() || self.aggregate.is_some() {
+            return Err(Forbidden);
+        }
+        match self.noise {
+            Some(true) => Ok(Label { noise: None, ..*self }),
+            _ => Ok(*self),
+        }
+    }
+
     /// "Composition of two labels: a stage is present if either has it. If one
     /// has it, its fields are kept."
     pub fn compose(&self, other: &Label) -> Label {

@@ -4,6 +4,7 @@
 //!     WORD with WORD                  a composition
 //!     WORD transform NUMBER digits K  a discharge at level T
 //!     WORD aggregate NUMBER rows K    a discharge at level A
+//!     WORD noise                      a discharge at level N
 //!
 //! with words of eight hexadecimal digits. "b = 0 add, 1 sub, 2 cut, 3 band",
 //! "b = 0 count, 1 sum, 2 min, 3 max, 4 avg".
@@ -23,6 +24,7 @@ pub fn line(question: &str) -> Option<String> {
         [word, "aggregate", number, "rows", rows] => {
             aggregate(hexadecimal(word)?, number.parse().ok()?, rows.parse().ok()?)
         }
+        [word, "noise"] => noise(hexadecimal(word)?),
         _ => return None,
     };
     Some(format!("{question} gives {answer}"))
@@ -87,6 +89,14 @@ fn aggregate(word: u32, number: u32, rows: usize) -> String {
         _ => return NO_OPERATION.to_string(),
     };
     shown(label.after_aggregate(aggregate, rows))
+}
+
+/// Of level N there is one operation, so none that does not exist.
+fn noise(word: u32) -> String {
+    match Label::from_word(word) {
+        Some(label) => shown(label.after_noise()),
+        None => ILL_FORMED.to_string(),
+    }
 }
 
 fn shown(label: Result<Label, Forbidden>) -> String {

@@ -1,15 +1,16 @@
 //! A reference implementation of the release monitor, for tests only.
 //!
 //! Written from document 01, "The release monitor and its labels", and from
-//! request #101 of document 02, and nothing else. Each module names the
-//! sentences that it follows:
+//! requests #101 and #102 of document 02, and nothing else. Each module names
+//! the sentences that it follows:
 //!
 //! - `label`: "The label, one 32-bit word"
 //! - `value`: "Values"
-//! - `steps`: "Steps on a stack of at most three tables", and 17 to 19
+//! - `steps`: "Steps on a stack of at most three tables", #102's NOISE, and 17
+//!   to 19
 //! - `container`: "The container", and 11 to 16
 //! - `table`: the tables that steps read and make
-//! - `eval`: what the steps do, and 31 to 36
+//! - `eval`: what the steps do, and 31 to 37
 //! - `text`: a released table as text, #101
 //! - `release`: `run`, `check`, 1, 51, and what becomes of the lent slices
 //!

@@ -1,10 +1,12 @@
 //! The monitor program of document 01, by the reference implementation, the
-//! text of a release, and the answers of the trials.
+//! text of a release, runs with draws, and the answers of the trials.
 //!
 //!     rustc -O --edition 2021 -o reference tests/reference/main.rs
 //!
 //!     reference             runs the container on standard input
 //!     reference FILE..      runs each container, behind a line with its name
+//!     reference noise FILE DRAWS..  runs each container with the draws of the
+//!                           file named after it, behind a line with its name
 //!     reference export      writes the text of the release, or the refusal's
 //!                           line to standard error
 //!     reference texts FILE..  the answers with much and little room for the
@@ -13,6 +15,9 @@
 //!     reference labels      a line for each line of standard input, a question
 //!                           to the label library, with its answer
 //!     reference steps       the same for single steps on small tables
+//!
+//! Only `noise` and `steps` have draws. A file of draws has decimal numbers of 64
+//! bits, one a line.
 
 #[path = "lib.rs"]
 #[allow(dead_code, unused_imports)]
@@ -32,11 +37,21 @@ fn main() {
     let words: Vec<&str> = words.iter().map(String::as_str).collect();
     let mut text = String::new();
     match words[..] {
-        [] => print_run(&read(io::stdin(), "standard input"), &mut text),
+        [] => print_run(&read(io::stdin(), "standard input"), NO_DRAWS, &mut text),
         ["labels"] => {
             for (index, question) in input().lines().enumerate() {
                 let line = label_trials::line(question).unwrap_or_else(|| no_line(index + 1));
                 writeln!(text, "{line}").unwrap();
+            }
+        }
+        ["noise", ref names @ ..] => {
+            for pair in names.chunks(2) {
+                let (name, draws) = match *pair {
+                    [name, draws] => (name, draws),
+                    _ => fail(pair[0], "no file of draws after it"),
+                };
+                writeln!(text, "{name}").unwrap();
+                print_run(&read_file(name), &read_draws(draws), &mut text);
             }
         }
         ["export"] => match export(&read(io::stdin(), "standard input")) {
@@ -58,7 +73,7 @@ fn main() {
         ref names => {
             for name in names {
                 writeln!(text, "{name}").unwrap();
-                print_run(&read_file(name), &mut text);
+                print_run(&read_file(name), NO_DRAWS, &mut text);
             }
         }
     }
@@ -71,7 +86,7 @@ fn fail(name: &str, error: impl Display) -> ! {
 }
 
 fn no_line(number: usize) -> ! {
-    fail(&format!("line {number}"), "no question that document 01 answers")
+    fail(&format!("line {number}"), "no question that the documents answer")
 }
 
 /// Standard input, as text.
@@ -97,6 +112,31 @@ fn read(source: impl Read, name: &str) -> Vec<u8> {
     bytes
 }
 
+/// Programs lend, "of the inputs that requests add, empty ones".
+const NO_DRAWS: &[i64] = &[];
+
+fn read_draws(name: &str) -> Vec<i64> {
+    let text = std::fs::read_to_string(name).unwrap_or_else(|error| fail(name, error));
+    draws(&text).unwrap_or_else(|number| fail(name, format!("line {number} is no draw")))
+}
+
+/// The draws of a file, or the number of a line that is none. The last line may
+/// lack its LF.
+fn draws(text: &str) -> Result<Vec<i64>, usize> {
+    if text.is_empty() {
+        return Ok(Vec::new());
+    }
+    let lines = text.strip_suffix('\n').unwrap_or(text).split('\n');
+    lines.enumerate().map(|(index, line)| draw(line).ok_or(index + 1)).collect()
+}
+
+/// Decimal digits, behind a minus sign or not, of a signed 64-bit number.
+fn draw(line: &str) -> Option<i64> {
+    let digits = line.strip_prefix('-').unwrap_or(line);
+    let right = digits.bytes().all(|byte| byte.is_ascii_digit());
+    right.then(|| line.parse().ok()).flatten()
+}
+
 /// The steps and the tables of an accepted container, or the refusal.
 fn print_check(name: &str, container: &[u8], text: &mut String) {
     match parse(container) {
@@ -118,14 +158,15 @@ struct Left {
     text: Vec<u8>,
 }
 
-/// Runs a container with so many bytes of room for the text.
-fn run_in(room: usize, container: &[u8]) -> Left {
+/// Runs a container with these draws and so many bytes of room for the text.
+fn run_in(room: usize, container: &[u8], draws: &[i64]) -> Left {
     let mut values = vec![0i64; WORK_LENGTH];
     let mut labels = vec![0u32; WORK_LENGTH];
     let mut output = vec![0i64; OUTPUT_LENGTH];
     let mut trace = vec![0u32; TRACE_LENGTH];
     let mut text = vec![0u8; room];
-    let answer = run(container, &mut values, &mut labels, &mut output, &mut trace, &mut text);
+    let answer =
+        run(container, draws, &mut values, &mut labels, &mut output, &mut trace, &mut text);
     Left { answer, output, trace, text }
 }
 
@@ -148,14 +189,14 @@ impl Left {
 }
 
 fn export(container: &[u8]) -> Result<String, String> {
-    run_in(TEXT_LENGTH, container).export()
+    run_in(TEXT_LENGTH, container, NO_DRAWS).export()
 }
 
 /// "per finished step `S`, step, kind, rows, columns, stages left; then per
 /// released row `R` and its values, or `X`, the number and the place". The
 /// program "lends room enough for every write".
-fn print_run(container: &[u8], text: &mut String) {
-    let left = run_in(TEXT_LENGTH, container);
+fn print_run(container: &[u8], draws: &[i64], text: &mut String) {
+    let left = run_in(TEXT_LENGTH, container, draws);
     // No step has kind 0, so a zero kind ends the finished steps.
     for (step, line) in left.trace.chunks(4).take_while(|line| line[0] != 0).enumerate() {
         writeln!(text, "S {step} {} {} {} {}", line[0], line[1], line[2], line[3]).unwrap();
@@ -187,7 +228,7 @@ fn print_texts(container: &[u8], text: &mut String) {
     }
     rooms.push(MUCH_ROOM);
     for room in rooms {
-        let [number, one, two, three] = run_in(room, container).answer.numbers();
+        let [number, one, two, three] = run_in(room, container, NO_DRAWS).answer.numbers();
         writeln!(text, "T {room} {number} {one} {two} {three}").unwrap();
     }
     text.push_str(&release);
@@ -196,6 +237,9 @@ fn print_texts(container: &[u8], text: &mut String) {
 #[cfg(test)]
 #[path = "examples.rs"]
 mod examples;
+
+#[cfg(test)]
+mod noise_examples;
 
 #[cfg(test)]
 mod text_examples;

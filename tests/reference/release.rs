@@ -54,8 +54,11 @@ pub fn check(container: &[u8]) -> Result<(), InputRefusal> {
     parse(container).map(|_| ())
 }
 
+/// `draws` is document 02's "lent list of signed draws", #102, empty where there
+/// are none; it is read, and of any length.
 pub fn run(
     container: &[u8],
+    draws: &[i64],
     work_values: &mut [i64],
     work_labels: &mut [u32],
     output: &mut [i64],
@@ -63,7 +66,7 @@ pub fn run(
     lent_text: &mut [u8],
 ) -> Answer {
     // 1: "First of all checks; place zeros; nothing changes." The text's slice
-    // is not among those that it tests.
+    // and the draws are not among those that it tests.
     if work_values.len() < WORK_LENGTH
         || work_labels.len() < WORK_LENGTH
         || output.len() < OUTPUT_LENGTH
@@ -75,7 +78,7 @@ pub fn run(
         Ok(container) => container,
         Err(refusal) => return Answer::Input(refusal),
     };
-    let evaluation = evaluate(&container);
+    let evaluation = evaluate(&container, draws);
 
     // "A run's refusal from 31 on, and a release, write the trace lines of the
     // finished steps from the start of the trace."

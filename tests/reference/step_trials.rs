@@ -8,16 +8,17 @@
 //! A table is its columns, a bar and its rows of cells, a value and a label in
 //! hexadecimal each; or, of one column, `7:0 .. 8:0 of 129 rows`: the first row,
 //! and the one that all others are. `; one more` is a fourth table. What stands
-//! behind `#` is read and not printed.
+//! behind `#` is read and not printed. A NOISE has the draws that are left among
+//! its words, `NOISE 1 with 5,-3,7`, or `NOISE 1 with none`.
 //!
 //! A line of the output is that of the input up to `#`, and the answer. So what
 //! the program prints of a case, which it takes from the step that it read and
 //! from memory, is held to the input as its answer is held to the rules.
 //!
-//! "does not fit" is said where document 01 has no such step: less work memory
-//! than 1 asks for, a stack or a table larger than there are, a step that 17 to
-//! 19 refuse, a SCAN of a container that is refused, an ill-formed label under
-//! a discharge. Whatever else document 01 does not settle is no case.
+//! "does not fit" is said where documents 01 and 02 have no such step: less work
+//! memory than 1 asks for, a stack or a table larger than there are, a step that
+//! 17 to 19 refuse, a SCAN of a container that is refused, an ill-formed label
+//! under a discharge. Whatever else they do not settle is no case.
 
 use super::reference::container::{parse, MOST_ROWS};
 use super::reference::eval::{perform, Stop};
@@ -129,12 +130,13 @@ impl<'a> Case<'a> {
 
     /// The tables after a step, or its refusal.
     fn step(&self, container: &[u8]) -> Option<String> {
+        let draws = draws(&self.words)?;
         let made = match self.fitting(container)? {
             None => return Some("does not fit".to_string()),
             Some((step, tables)) => {
                 let mut stack: Vec<Table> =
                     self.stack.iter().map(GivenTable::labelled).collect::<Option<_>>()?;
-                perform(&step, &tables, &mut stack).map(|made| {
+                perform(&step, &tables, &mut stack, &mut draws.iter()).map(|made| {
                     stack.push(made);
                     stack
                 })
@@ -174,7 +176,9 @@ impl<'a> Case<'a> {
     /// The cells whose labels the step discharges.
     fn discharged(&self, step: &Step) -> impl Iterator<Item = &Given> {
         let column = match *step {
-            Step::Apply { column, .. } | Step::Group { column, .. } => Some(column),
+            Step::Apply { column, .. } | Step::Group { column, .. } | Step::Noise { column } => {
+                Some(column)
+            }
             _ => None,
         };
         let cells = column.zip(self.stack.last()).map(|(column, table)| {
@@ -362,8 +366,17 @@ fn step(words: &[&str]) -> Option<Option<Step>> {
                 None => return Some(None),
             }
         }
+        ["NOISE", column, "with", _] => Step::Noise { column: decimal(column)? },
         _ => return None,
     }))
+}
+
+/// The draws that are left for the step.
+fn draws(words: &[&str]) -> Option<Vec<i64>> {
+    match *words {
+        ["NOISE", _, "with", draws] if draws != "none" => draws.split(',').map(decimal).collect(),
+        _ => Some(Vec::new()),
+    }
 }
 
 /// "c = 0: against the constant; c = 1: against column d."

@@ -17,6 +17,7 @@ pub enum Step {
     Keep { mask: u8 },
     Apply { column: usize, operation: Operation },
     Group { keys: u8, aggregate: Aggregate, column: usize },
+    Noise { column: usize },
 }
 
 /// "c = 0: against the constant; c = 1: against column d."
@@ -113,11 +114,13 @@ impl Step {
                 };
                 Some(Step::Group { keys: a, aggregate, column: c as usize })
             }
+            // Document 02, #102: "step kind 8, NOISE, a = column".
+            (8, 0, 0, 0, 0) => Some(Step::Noise { column }),
             _ => None,
         }
     }
 
-    /// "1. SCAN" to "7. GROUP".
+    /// "1. SCAN" to "7. GROUP", and "step kind 8, NOISE".
     pub fn kind(&self) -> u32 {
         match self {
             Step::Scan { .. } => 1,
@@ -127,6 +130,7 @@ impl Step {
             Step::Keep { .. } => 5,
             Step::Apply { .. } => 6,
             Step::Group { .. } => 7,
+            Step::Noise { .. } => 8,
         }
     }
 
@@ -174,6 +178,10 @@ impl Step {
                 let width = stack.pop().unwrap();
                 let exist = columns_of(keys).all(|key| key < width) && column < width;
                 exist.then(|| columns_of(keys).count() + 1)
+            }
+            Step::Noise { column } => {
+                let width = stack.pop().unwrap();
+                (column < width).then_some(width + 1)
             }
         };
         match made {

@@ -5,7 +5,7 @@ use super::reference::release::{OUTPUT_LENGTH, TEXT_LENGTH, TRACE_LENGTH, WORK_L
 use super::reference::run;
 use super::reference::text;
 use super::reference::value::{HIGHEST, LOWEST};
-use super::{export, print_texts};
+use super::{export, print_texts, NO_DRAWS};
 
 /// In the printed case the sum needs two rows; with the second it lacks one.
 const RELEASED: u32 = 0x2002_0002;
@@ -70,15 +70,15 @@ fn answers_by_the_room_for_the_text() {
 
 /// Slices one element longer than needed, the text's of the length asked for.
 #[derive(Clone, PartialEq, Debug)]
-struct Lent {
+pub struct Lent {
     values: Vec<i64>,
     labels: Vec<u32>,
-    output: Vec<i64>,
+    pub output: Vec<i64>,
     trace: Vec<u32>,
     text: Vec<u8>,
 }
 
-fn lent(room: usize) -> Lent {
+pub fn lent(room: usize) -> Lent {
     Lent {
         values: vec![-5; WORK_LENGTH + 1],
         labels: vec![5; WORK_LENGTH + 1],
@@ -89,16 +89,16 @@ fn lent(room: usize) -> Lent {
 }
 
 impl Lent {
-    fn run(&mut self, container: &[u8]) -> [u32; 4] {
+    pub fn run(&mut self, container: &[u8], draws: &[i64]) -> [u32; 4] {
         let Lent { values, labels, output, trace, text } = self;
-        run(container, values, labels, output, trace, text).numbers()
+        run(container, draws, values, labels, output, trace, text).numbers()
     }
 
     /// Work memory is zero, and the trace begins with these lines.
-    fn ran(mut self, lines: [u32; 8]) -> Lent {
+    pub fn ran(mut self, lines: &[u32]) -> Lent {
         self.values[..WORK_LENGTH].fill(0);
         self.labels[..WORK_LENGTH].fill(0);
-        self.trace[..8].copy_from_slice(&lines);
+        self.trace[..lines.len()].copy_from_slice(lines);
         self
     }
 }
@@ -109,8 +109,8 @@ impl Lent {
 fn lent_slices_after_a_release() {
     for (room, contents) in [(12, "c0,c1\r\n7,8\r\n"), (15, "c0,c1\r\n7,8\r\n???")] {
         let mut left = lent(room);
-        assert_eq!(left.run(&printed_case(RELEASED)), [0, 1, 2, 12]);
-        let mut expected = lent(room).ran([1, 2, 2, 2, 7, 1, 2, 0]);
+        assert_eq!(left.run(&printed_case(RELEASED), NO_DRAWS), [0, 1, 2, 12]);
+        let mut expected = lent(room).ran(&[1, 2, 2, 2, 7, 1, 2, 0]);
         expected.output[..2].copy_from_slice(&[7, 8]);
         expected.text = contents.as_bytes().to_vec();
         assert_eq!(left, expected);
@@ -122,8 +122,8 @@ fn lent_slices_after_a_release() {
 fn lent_slices_after_51() {
     for room in [0, 7, 11] {
         let mut left = lent(room);
-        assert_eq!(left.run(&printed_case(RELEASED)), [51, 2, 0, 0]);
-        assert_eq!(left, lent(room).ran([1, 2, 2, 2, 7, 1, 2, 0]));
+        assert_eq!(left.run(&printed_case(RELEASED), NO_DRAWS), [51, 2, 0, 0]);
+        assert_eq!(left, lent(room).ran(&[1, 2, 2, 2, 7, 1, 2, 0]));
     }
 }
 
@@ -131,8 +131,8 @@ fn lent_slices_after_51() {
 fn lent_slices_after_35() {
     for room in [0, 11, 12, 15] {
         let mut left = lent(room);
-        assert_eq!(left.run(&printed_case(REFUSED)), [35, 2, 0, 1]);
-        assert_eq!(left, lent(room).ran([1, 2, 2, 2, 7, 1, 2, 1]));
+        assert_eq!(left.run(&printed_case(REFUSED), NO_DRAWS), [35, 2, 0, 1]);
+        assert_eq!(left, lent(room).ran(&[1, 2, 2, 2, 7, 1, 2, 1]));
     }
 }
 
@@ -149,7 +149,7 @@ fn short_slices() {
                 _ => short.trace.truncate(TRACE_LENGTH - 1),
             }
             let mut left = short.clone();
-            assert_eq!(left.run(&printed_case(RELEASED)), [1, 0, 0, 0]);
+            assert_eq!(left.run(&printed_case(RELEASED), NO_DRAWS), [1, 0, 0, 0]);
             assert_eq!(left, short);
         }
     }

@@ -37,6 +37,15 @@ impl Value {
         self.with(other, |a, b| a + b)
     }
 
+    /// Document 02, #102: "A draw may be any 64-bit number; a sum outside the
+    /// value range is OVER."
+    pub fn add_draw(self, draw: i64) -> Value {
+        match self {
+            Value::Known(number) => exact(number as i128 + draw as i128),
+            Value::Over => Value::Over,
+        }
+    }
+
     pub fn sub(self, other: Value) -> Value {
         self.with(other, |a, b| a - b)
     }

@@ -1,4 +1,4 @@
-"""Bad inputs of tools/container and tools/explain, each with the one line that the script says of it."""
+"""Bad inputs of tools/container, tools/explain and tools/draws, each with the one line that the script says of it."""
 
 NUMBER = "a number has decimal digits and, below zero, a minus before them"
 MEANT = "what is meant to be wrong says so in its section 'answer'"
@@ -13,6 +13,8 @@ FIELD = "is no field with its number, each once; the fields are kind a b c d spa
 NAME = "a container is begun by 'container' and one name of a to z, 0 to 9 and _, of at most 100 characters"
 TOO_MUCH = "makes more than 16,777,216 bytes and repeated characters to here"
 BLAME = "the output was changed, is not that of CONTAINER, or is misread by this script"
+ANSWERS = "'answers check', 'answers run' or 'answers noise' stands before the first container"
+SCALE = "is not a number above 0, as 3, 1/2 or 2.5, of at most 9 and 9 digits; -h prints help"
 
 # Rows of a table of one column, in line 6 of ROW_TEXT.
 ROW_TEXT = "container a\n# x\nplan\n  SCAN 0\ntable 1\n  {}\n"
@@ -92,7 +94,7 @@ STEPS = [
     ("SCAN x", f"'x' is not a number; {NUMBER}"),
     ("SCAN 300", "the table '300' is not between 0 and 255"),
     ("SCAN 5", f"step 1, SCAN of table 5: table 5 does not exist: the container has 1 table, table 0 (19 at byte 34; {MEANT})"),
-    ("select 0", "'select' is no step; there are SCAN UNION JOIN FILTER KEEP APPLY GROUP"),
+    ("select 0", "'select' is no step; there are SCAN UNION JOIN FILTER KEEP APPLY GROUP NOISE"),
     ("UNION", f"step 1, UNION: it needs 2 tables, and the steps before it leave 1 (18 at byte 34; {MEANT})"),
     ("SCAN 0", f"the plan ends and leaves 2 tables, and it must leave one (18 at byte 50; {MEANT})"),
     ("JOIN 0", "'JOIN 0': JOIN is written as in 'JOIN 0 1'"),
@@ -115,11 +117,23 @@ STEPS = [
     ("GROUP 0 sum", "'GROUP 0 sum': GROUP is written as in 'GROUP 0 1 sum 2' or 'GROUP count 0'"),
     ("GROUP 0 median 1", "'median' is no aggregate; there are count sum min max avg"),
     ("GROUP sum sum 1", f"'sum' is not a number; {NUMBER}"),
+    ("NOISE", "'NOISE': NOISE is written as in 'NOISE 1'"),
+    ("NOISE 0 1", "'NOISE 0 1': NOISE is written as in 'NOISE 1'"),
+    ("NOISE x", f"'x' is not a number; {NUMBER}"),
+    ("NOISE 300", "the column '300' is not between 0 and 255"),
+    (
+        "NOISE 2",
+        "step 1, NOISE on column 2: column 2 does not exist: the table that it reads has 2 columns, 0 to 1"
+        f" (19 at byte 34; {MEANT})",
+    ),
+    ("NOISE 1 with b=1", f"step 1, NOISE, a wrong record: b is 1, and this step does not use it, so it is zero (17 at byte 34; {MEANT})"),
+    ("NOISE 1 with spare=1", f"step 1, NOISE, a wrong record: one of its bytes 5 to 7 is not zero (17 at byte 34; {MEANT})"),
     ("KEEP 0 with x=1", f"'x=1' {FIELD}"),
     ("KEEP 0 with d=1 d=2", f"'d=2' {FIELD}"),
     ("KEEP 0 with d=1", f"step 1, KEEP, a wrong record: d is 1, and this step does not use it, so it is zero (17 at byte 34; {MEANT})"),
-    ("STEP kind=9", f"step 1, a record of kind 9: kind 9 does not exist; they are 1 to 7 (17 at byte 34; {MEANT})"),
-    ("answers check", "'answers check' or 'answers run' stands before the first container"),
+    ("STEP kind=9", f"step 1, a record of kind 9: kind 9 does not exist; they are 1 to 8 (17 at byte 34; {MEANT})"),
+    ("answers check", ANSWERS),
+    ("draws", "'draws' stands only in a text that begins with 'answers noise'"),
 ]
 
 # Whole texts, each with the line that the message names.
@@ -132,11 +146,21 @@ TEXTS = [
     ("container A\n", 1, f"'container A': {NAME}"),
     ("container a b\n", 1, f"'container a b': {NAME}"),
     (GOOD_TEXT * 2, 7, "there is another container 'a'"),
-    ("answers\n" + GOOD_TEXT, 1, "'answers check' or 'answers run' stands before the first container"),
-    ("answers maybe\n" + GOOD_TEXT, 1, "'maybe' is no kind of answers; there are check run"),
+    ("answers\n" + GOOD_TEXT, 1, ANSWERS),
+    ("answers maybe\n" + GOOD_TEXT, 1, "'maybe' is no kind of answers; there are check run noise"),
+    ("answers noise\n" + GOOD_TEXT, 2, "a has no section 'draws', which may be empty"),
+    ("answers noise\n" + GOOD_TEXT + "draws\ndraws\n", 9, "a has its draws already"),
+    ("answers noise\n" + GOOD_TEXT + "draws 5\n", 8, "the section 'draws' is begun by a line with this word alone"),
+    ("answers noise\n" + GOOD_TEXT + "draws\n  5 -6\n  1.5 7\n", 10, f"'1.5' is not a number; {NUMBER}"),
+    (
+        "answers noise\n" + GOOD_TEXT + "draws\n  9223372036854775808\n",
+        9,
+        "the draw '9223372036854775808' is not between -9,223,372,036,854,775,808 and 9,223,372,036,854,775,807",
+    ),
+    ("answers noise\n" + GOOD_TEXT + "draws\n" + f"  repeat 1000: {'5 ' * 900}\n", 9, f"the text {TOO_MUCH}"),
     ("container a\nplan\n", 1, "a has no comment, a line with # that says what it shows"),
     ("container a\n# x\n", 1, "a has no plan"),
-    ("container a\n# x\n5\n", 3, "'5' stands before the first section; sections are plan table part raw damage answer"),
+    ("container a\n# x\n5\n", 3, "'5' stands before the first section; sections are plan table part raw damage draws answer"),
     ("container a\n# x\nplan\n  SCAN 0\n", 1, "a has no table"),
     ("container a\n# x\ntable 1\n  5\n", 1, "a has no plan; its section comes before the tables"),
     ("container a\n# x\ntable 1\n  5\nplan\n", 5, "the plan is the first part, and there is one"),
@@ -234,6 +258,73 @@ WITH_CONTAINER = [
     ("printed_case\n" + PRINTED, "line 1: 'printed_case' is no line of the monitor; its lines begin with S, R or X"),
     (PRINTED.replace("\n", "\r\n"), "line 1: it ends in a carriage return: the output was changed on its way"),
 ]
+# Two containers with NOISE, and outputs that do not fit them. The draws decide values of the first, and rows of the second.
+NOISY_TEXT = """container noisy
+# x
+plan
+  SCAN 0
+  NOISE 1
+  KEEP 0 2
+table 2
+  7 100:N(noise)
+  8 200:N(noise)
+container open
+# x
+plan
+  SCAN 0
+  NOISE 1
+  FILTER 2 >= 10
+  APPLY 2 add column 0
+table 2
+  7 100:N(noise)
+  8 200:N(noise)
+"""
+NOISY = "S 0 1 2 2 2\nS 1 8 2 3 2\n"
+BY_THE_CONTAINER = "and by the container"
+WITH_NOISE = [
+    ("noisy", NOISY + "S 2 5 2 2 0\nR 7 103\nR 9 203\n", "line 5: it is a row with other values than the container gives there"),
+    ("noisy", NOISY + "S 2 5 2 2 0\nX 36 3 1 0\n", f"line 4: it is refusal 36 at 3 1 0, {BY_THE_CONTAINER} a released row stands here"),
+    (
+        "noisy",
+        "S 0 1 2 2 2\nX 37 1 1 0\n",
+        f"line 2: it is refusal 37 at 1 1 0, {BY_THE_CONTAINER} refusal 37 at 1 1 1 stands here",
+    ),
+    (
+        "noisy",
+        NOISY + "X 37 2 0 1\n",
+        f"line 3: it is refusal 37 at 2 0 1, {BY_THE_CONTAINER} the line of step 2 stands here",
+    ),
+    (
+        "noisy",
+        "S 0 1 2 2 2\nX 32 1 0 1\n",
+        f"line 2: it is refusal 32 at 1 0 1, {BY_THE_CONTAINER} the line of step 1 stands here",
+    ),
+    (
+        "noisy",
+        "S 0 1 2 2 2\nS 1 8 2 3 3\nS 2 5 2 2 0\nR 7 103\nR 8 203\n",
+        "line 2: it says 3 stages left, and step 1 of the container, NOISE on column 1, leaves 2",
+    ),
+    (
+        "open",
+        NOISY + "S 2 5 2 3 2\nS 3 6 2 4 2\nX 35 4 0 1\n",
+        "line 3: it says kind 5, and step 2 of the container, FILTER for rows whose column 2 >= 10, has kind 4",
+    ),
+    ("open", NOISY + "S 2 4 0 3 0\n", "line 4: it is missing, and the line of step 3 stands here by the container"),
+    ("open", NOISY + "S 2 4 1 3 1\nX 34 3 256 0\n", "line 4: no UNION or JOIN of these tables makes more than 256 rows"),
+    ("open", NOISY + "S 2 4 1 3 1\nX 37 3 0 2\n", f"line 4: it is refusal 37 at 3 0 2, {BY_THE_CONTAINER} the line of step 3 stands here"),
+    ("open", NOISY + "S 2 4 1 3 1\nX 35 3 0 1\n", f"line 4: it is refusal 35 at 3 0 1, {BY_THE_CONTAINER} the line of step 3 stands here"),
+    (
+        "open",
+        NOISY + "S 2 4 1 3 1\nS 3 6 1 4 1\nX 33 4 0 0\n",
+        f"line 5: it is refusal 33 at 4 0 0, {BY_THE_CONTAINER} the output has ended before it",
+    ),
+    (
+        "open",
+        NOISY + "S 2 4 0 3 0\nS 3 6 0 4 0\nS 4 5 0 1 0\n",
+        f"line 5: it is the line of step 4, {BY_THE_CONTAINER} the output has ended before it",
+    ),
+]
+
 # Outputs that cannot be any container's; `explain` reads them without one.
 ALONE = [
     ("\n", "line 1: '' is no line of the monitor; its lines begin with S, R or X"),
@@ -246,6 +337,11 @@ ALONE = [
     ("S 0 1 2 2 17\n", "line 1: 2 rows of 2 columns cannot have 17 stages left"),
     ("S 0 2 2 2 2\n", "line 1: UNION needs 2 tables, and the steps before it leave none"),
     ("S 0 1 2 2 2\nS 1 5 1 2 0\n", "line 2: a KEEP cannot make 1 row of 2 columns with 0 stages left here"),
+    ("S 0 1 2 2 2\nS 1 8 2 2 2\n", "line 2: a NOISE cannot make 2 rows of 2 columns with 2 stages left here"),
+    ("S 0 1 2 2 2\nS 1 8 1 3 2\n", "line 2: a NOISE cannot make 1 row of 3 columns with 2 stages left here"),
+    ("S 0 1 2 2 2\nS 1 8 2 3 1\n", "line 2: a NOISE cannot make 2 rows of 3 columns with 1 stage left here"),
+    ("S 0 1 1 2 5\nS 1 8 1 3 7\n", "line 2: a NOISE cannot make 1 row of 3 columns with 7 stages left here"),
+    ("S 0 8 1 2 0\n", "line 1: NOISE needs 1 table, and the steps before it leave none"),
     ("S 0 1 1 1 0\nR 140737488355328\n", "line 2: it has a number out of the range of values"),
     ("S 0 1 1 1 0\nS 1 1 1 1 0\nR 5\n", "line 3: it is a released row, and the steps so far leave 2 tables, and one is released"),
     ("X 12 0\n", "line 1: refusal 12 cannot stand at byte 0"),
@@ -256,6 +352,15 @@ ALONE = [
     ("X 31 1 0\n", "line 1: the place of refusal 31 is three numbers"),
     ("X 99 0\n", "line 1: refusal 99 does not exist"),
     ("X 50 1 0 0\n", "line 1: refusal 50 does not exist"),
+    ("X 38 1 0 0\n", "line 1: refusal 38 does not exist"),
+    ("X 37 1\n", "line 1: the place of refusal 37 is three numbers"),
+    ("X 37 0 0 0\n", "line 1: refusal 37 needs a table, and no step is finished"),
+    ("S 0 1 2 2 0\nX 37 1 2 0\n", "line 2: there is no row 2, column 0 in what step 1 can read"),
+    ("S 0 1 2 2 0\nX 37 1 0 2\n", "line 2: there is no row 0, column 2 in what step 1 can read"),
+    (
+        "S 0 1 1 1 0\n" + "".join(f"S {k} 5 1 1 0\n" for k in range(1, 64)) + "X 37 64 0 0\n",
+        "line 65: a plan has at most 64 steps",
+    ),
     ("X 51 1\n", "line 1: the place of refusal 51 is three numbers"),
     ("X 51 0 0 0\n", "line 1: refusal 51 needs a table, and no step is finished"),
     (
@@ -310,4 +415,25 @@ COMMANDS = [
         " the output was changed, is not that of TEXT, or is misread by this script",
     ),
     ("explain /dev/zero", "OUTPUT", 1, None),
+    ("draws", None, 2, "draws: there are two words, COUNT and SCALE, and not 0; -h prints help"),
+    ("draws 5", None, 2, "draws: there are two words, COUNT and SCALE, and not 1; -h prints help"),
+    ("draws 5 3 1", None, 2, "draws: there are two words, COUNT and SCALE, and not 3; -h prints help"),
+    ("draws --fast 3", None, 2, "draws: '--fast' is no option; -h prints help"),
+    ("draws 5 -3", None, 2, "draws: '-3' is no option; -h prints help"),
+    ("draws x 3", None, 2, f"draws: 'x' is not a number; {NUMBER}; -h prints help"),
+    ("draws 1.5 3", None, 2, f"draws: '1.5' is not a number; {NUMBER}; -h prints help"),
+    ("draws 0 3", None, 2, "draws: the count '0' is not between 1 and 16,128; -h prints help"),
+    ("draws 16129 3", None, 2, "draws: the count '16129' is not between 1 and 16,128; -h prints help"),
+    (f"draws {'9' * 40} 3", None, 2, f"draws: the count '{'9' * 40}' is not between 1 and 16,128; -h prints help"),
+    ("draws 5 0", None, 2, f"draws: the scale '0' {SCALE}"),
+    ("draws 5 0/3", None, 2, f"draws: the scale '0/3' {SCALE}"),
+    ("draws 5 1/0", None, 2, f"draws: the scale '1/0' {SCALE}"),
+    ("draws 5 0.000", None, 2, f"draws: the scale '0.000' {SCALE}"),
+    ("draws 5 .5", None, 2, f"draws: the scale '.5' {SCALE}"),
+    ("draws 5 1e3", None, 2, f"draws: the scale '1e3' {SCALE}"),
+    ("draws 5 1/2/3", None, 2, f"draws: the scale '1/2/3' {SCALE}"),
+    ("draws 5 1.5/2", None, 2, f"draws: the scale '1.5/2' {SCALE}"),
+    ("draws 5 1000000000", None, 2, f"draws: the scale '1000000000' {SCALE}"),
+    ("draws 5 1/1000000000", None, 2, f"draws: the scale '1/1000000000' {SCALE}"),
+    ("draws 5 nan", None, 2, f"draws: the scale 'nan' {SCALE}"),
 ]

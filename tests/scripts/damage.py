@@ -5,6 +5,7 @@ WORDS = (
     "5: 5:A(sum,2) 5:A(10,sum) T(cut1,cut4) T() H+ 20030000 -1 0 00 01067 0x10 1_000 9999999999999999999999 {i} {i/0} {i*9+1} "
     "repeat repeat 3: 999999: with d=1 STEP kind=9 bytes 00 FF zeros 70000 SCAN UNION JOIN FILTER KEEP APPLY GROUP count sum avg "
     "column = <= cut band add plan table 2 part raw damage answer answers check container append truncate offset X S R 31 35 ; # "
+    "NOISE draws noise N(noise) 37 "
     "\u0663 \u00a0 ( ) , : +"
 ).split(" ")
 CHARACTERS = "0123456789:;(),+-{}#=SRXHTAN \n\t\r\x00\u00e9\u2028"
@@ -101,6 +102,7 @@ def value(rng):
 LABELS = (
     ["", "", "", "H", "T()", "T(add)", "T(cut2)", "T(sub,band)", "N()", "N(noise)", "A(1)", "A(sum,1)", "A(sum,2)", "A(count,2)"]
     + ["A(count,sum,min,max,avg,3)", "T(cut1)+A(sum,2)", "T(add,band)+A(avg,1)", "A(sum,1)+N()", "H+A(sum,1)", "A(min,max,2)"]
+    + ["N(noise)", "A(count,sum,1)+N(noise)", "T(add,sub)+N(noise)"]
 )
 
 
@@ -123,8 +125,8 @@ def operand(rng, width):
     return f"column {rng.randrange(width)}" if rng.random() < 0.4 else str(value(rng))
 
 
-def next_step(rng, widths, stack):
-    """A step that fits the widths on the stack, and the widths after it."""
+def next_step(rng, widths, stack, noise):
+    """A step that fits the widths on the stack, and the widths after it. `noise` is how often it is a NOISE."""
     if not stack or (len(stack) < 3 and rng.random() < 0.25):
         t = rng.randrange(len(widths))
         return f"SCAN {t}", stack + [widths[t]]
@@ -136,6 +138,8 @@ def next_step(rng, widths, stack):
             return f"JOIN {rng.randrange(left)} {rng.randrange(right)}", stack[:-2] + [left + right - 1]
     width = stack[-1]
     some = sorted(rng.sample(range(width), rng.randint(1, width)))
+    if width < 8 and rng.random() < noise:
+        return f"NOISE {rng.randrange(width)}", stack[:-1] + [width + 1]
     kind = rng.randrange(4)
     if kind == 0:
         return f"FILTER {rng.randrange(width)} {rng.choice(('=', '!=', '<', '<=', '>', '>='))} {operand(rng, width)}", stack
@@ -159,13 +163,13 @@ def closing_step(rng, stack):
     return "KEEP 0", stack[:-1] + [1]
 
 
-def right_text(rng, name):
+def right_text(rng, name, noise=0.05):
     """The text of a container that passes the input checks."""
     tables = [table(rng, rng.random() < 0.8) for _ in range(rng.randint(1, 3))]
     widths = [columns for columns, _ in tables]
     plan, stack = [], []
     for _ in range(rng.randint(1, 8)):
-        step, stack = next_step(rng, widths, stack)
+        step, stack = next_step(rng, widths, stack, noise)
         plan.append(f"  {step}")
     while len(stack) > 1:
         step, stack = closing_step(rng, stack)
@@ -174,6 +178,11 @@ def right_text(rng, name):
     for _, rows in tables:
         lines += rows
     return "\n".join(lines) + "\n"
+
+
+def draws(rng):
+    """A list of draws, most of them small."""
+    return [rng.choice((0, 1, -1, rng.randint(-9, 9), 2**47, -(2**47), 2**63 - 1, -(2**63))) for _ in range(rng.choice((0, 1, 2, 5, 9, 40)))]
 
 
 def seeded(seed):

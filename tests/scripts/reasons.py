@@ -72,7 +72,72 @@ STATE = [
     (
         ["SCAN 0", "APPLY 0 add 1"],
         ["table 1", "5:H"],
-        "labelled H: no step removes H, so no APPLY or GROUP may use the cell, and it is never released.",
+        "labelled H: no step removes H, so no APPLY, GROUP or NOISE may use the cell, and it is never released.",
+    ),
+    (
+        ["SCAN 0", "NOISE 0"],
+        ["table 1", "5:T(cut3)+A(count,sum,2)+N(noise)"],
+        "first APPLY cut by at least 3 digits, then GROUP with count or sum over at least 2 rows, then NOISE on the column that the GROUP appends.",
+    ),
+    (
+        ["SCAN 0", "NOISE 0"],
+        ["table 1", "5:T(add)+N(noise)"],
+        "labelled T(add)+N(noise): first APPLY add, then NOISE on the column that the APPLY appends.",
+    ),
+    (
+        ["SCAN 0", "NOISE 0"],
+        ["table 1", "5:A(sum,2)+N(noise)"],
+        "labelled A(sum,2)+N(noise): first GROUP with sum over at least 2 rows, then NOISE on the column that the GROUP appends.",
+    ),
+    (
+        ["SCAN 0", "NOISE 0"],
+        ["table 1", "5:T(add)+A(9)"],
+        "labelled T(add)+A(9): A(9) allows nothing, so no step removes it, and neither the cell nor what is made of it is released.",
+    ),
+    (
+        ["SCAN 0", "GROUP 0 sum 1", "NOISE 1"],
+        ["table 2", "1 5:A(sum,3)+N(noise)", "1 6:A(sum,3)+N(noise)"],
+        "has 2 rows; A(sum,3) asks for 3. The label is A(sum,3)+N(noise): first GROUP with sum over at least 3 rows, then NOISE on the column",
+    ),
+    (
+        ["SCAN 0", "NOISE 0"],
+        ["table 1", "5:H+N(noise)"],
+        "labelled H+N(noise): no step removes H, so no APPLY, GROUP or NOISE may use the cell, and it is never released.",
+    ),
+    # 35 and 31: an N
+    (
+        ["SCAN 0"],
+        ["table 1", "5:N(noise)"],
+        "labelled N(noise): N(noise) asks for a NOISE. KEEP drops the column where it is not to be published.",
+    ),
+    (
+        ["SCAN 0", "GROUP sum 0"],
+        ["table 1", "5:A(sum,1)+N(noise)"],
+        "has 1 row; A is gone; N(noise) asks for a NOISE.",
+    ),
+    (
+        ["SCAN 0", "FILTER 0 = 5"],
+        ["table 1", "5:N()"],
+        "labelled N(): N() allows nothing, so no step removes it, and neither the cell nor what is made of it is released.",
+    ),
+    # 37, without draws
+    (
+        ["SCAN 0", "NOISE 1"],
+        ["table 2", "1 10", "2 20", "3 30"],
+        "is refused (37): no draw is left for row 0, column 1 of the table it reads.\n"
+        "From step 1 on the plan needs at least 3 draws, one for each row that a NOISE reads, and none were left."
+        " Run it again with at least 3 new draws, and never with old ones.",
+    ),
+    (
+        ["SCAN 0", "NOISE 1", "GROUP 0 sum 2", "NOISE 1"],
+        ["table 2", "1 10", "2 20", "1 30"],
+        "From step 1 on the plan needs at least 5 draws, one for each row that a NOISE reads, and none were left."
+        " Run it again with at least 5 new draws, and never with old ones.",
+    ),
+    (
+        ["SCAN 0", "NOISE 0"],
+        ["table 1", "1", "2:H"],
+        "From step 1 on the plan needs at least 2 draws, one for each row that a NOISE reads, and none were left.",
     ),
     # 33, 34, 36
     (
@@ -89,6 +154,92 @@ STATE = [
         ["SCAN 0", "GROUP sum 0"],
         ["table 1", "140737488355327", "1"],
         "Step 1, GROUP of all rows, sum of column 0, made it.",
+    ),
+]
+
+# The lines of the plan, the lines of the tables, an output that the draws make possible, and the sentence.
+DRAWN = [
+    (
+        ["SCAN 0", "NOISE 0", "NOISE 0", "KEEP 1 2", "NOISE 0"],
+        ["table 1", "1", "2", "3"],
+        ["S 0 1 3 1 0", "S 1 8 3 2 0", "X 37 2 1 0"],
+        "From step 2 on the plan needs at least 6 draws, one for each row that a NOISE reads, and 1 was left."
+        " Run it again with at least 9 new draws, and never with old ones.",
+    ),
+    (
+        ["SCAN 0", "NOISE 0", "FILTER 1 > 0", "NOISE 0"],
+        ["table 1", "1", "2", "3"],
+        ["S 0 1 3 1 0", "X 37 1 2 0"],
+        "needs at least 3 draws, one for each row that a NOISE reads, and 2 were left. Run it again with at least 3 new draws,",
+    ),
+    (
+        ["SCAN 0", "NOISE 0", "FILTER 1 > 0", "NOISE 0"],
+        ["table 1", "1", "2", "3"],
+        ["S 0 1 3 1 0", "S 1 8 3 2 0", "S 2 4 2 2 0", "X 37 3 1 0"],
+        "Step 3, NOISE on column 0 is refused (37): no draw is left for row 1, column 0 of what it reads.\n"
+        "Values that NOISE made decide the rows of step 2, so from there on the rows are not compared.\n"
+        "Cause: a NOISE uses a draw for each row that it reads, and the program lent fewer. Run it again with new draws, and never with old ones.",
+    ),
+    (
+        ["SCAN 0", "NOISE 0", "KEEP 1"],
+        ["table 1", "5:N()"],
+        ["S 0 1 1 1 1", "S 1 8 1 2 2", "S 2 5 1 1 1", "X 35 3 0 0"],
+        "Step 1, NOISE on column 0, made it of row 0, column 0 of table 0: N() allows nothing, so no step removes it,",
+    ),
+    (
+        ["SCAN 0", "NOISE 0", "APPLY 1 add 1"],
+        ["table 1", "5"],
+        ["S 0 1 1 1 0", "S 1 8 1 2 0", "S 2 6 1 3 0", "X 36 3 0 1"],
+        "Step 1, NOISE on column 0, made it.",
+    ),
+    (
+        ["SCAN 0", "NOISE 0", "APPLY 1 add 1"],
+        ["table 1", "5"],
+        ["S 0 1 1 1 0", "S 1 8 1 2 0", "S 2 6 1 3 0", "X 36 3 0 2"],
+        "Step 2, APPLY of add 1 to column 1, made it.",
+    ),
+    (
+        ["SCAN 0", "NOISE 1", "KEEP 0 2"],
+        ["table 2", "1 10:N(noise)"],
+        ["S 0 1 1 2 1", "S 1 8 1 3 1", "S 2 5 1 2 0", "R 1 -4"],
+        "The release is whole: 1 row of 2 columns. The draws decide values of column 1, which are not compared.",
+    ),
+    (
+        ["SCAN 0", "NOISE 0", "APPLY 1 cut 1", "GROUP sum 1", "NOISE 0"],
+        ["table 1", "5", "6"],
+        ["S 0 1 2 1 0", "S 1 8 2 2 0", "S 2 6 2 3 0", "S 3 7 1 1 0", "S 4 8 1 2 0", "R 9 10"],
+        "The release is whole: 1 row of 2 columns. The draws decide values of columns 0, 1, which are not compared.",
+    ),
+    (
+        ["SCAN 0", "NOISE 0", "GROUP count 1"],
+        ["table 1", "5", "6"],
+        ["S 0 1 2 1 0", "S 1 8 2 2 0", "S 2 7 1 1 0", "R 2"],
+        "The release is whole: 1 row of 1 column.\n",
+    ),
+    (
+        ["SCAN 0", "NOISE 0", "FILTER 1 > 5", "KEEP 0"],
+        ["table 1", "5", "6"],
+        ["S 0 1 2 1 0", "S 1 8 2 2 0", "S 2 4 1 2 0", "S 3 5 1 1 0", "R 6"],
+        "These lines fit one another and the plan: 1 row of 1 column. Values that NOISE made decide the rows of step 2, so from there on",
+    ),
+    (
+        ["SCAN 0", "NOISE 0", "GROUP 1 count 0"],
+        ["table 1", "5", "6"],
+        ["S 0 1 2 1 0", "S 1 8 2 2 0", "S 2 7 2 2 0", "X 36 3 1 0"],
+        "The release is refused (36): row 1, column 0 of the last table is OVER, a result outside the range of values.\n"
+        "Values that NOISE made decide the rows of step 2, so from there on the rows are not compared.\nCauses: a sum,",
+    ),
+    (
+        ["SCAN 0", "NOISE 0", "SCAN 0", "JOIN 1 0"],
+        ["table 1", "5", "6"],
+        ["S 0 1 2 1 0", "S 1 8 2 2 0", "S 2 1 2 1 0", "S 3 3 1 2 0", "R 5 6"],
+        "These lines fit one another and the plan: 1 row of 2 columns. Values that NOISE made decide the rows of step 3,",
+    ),
+    (
+        ["SCAN 0", "NOISE 0"],
+        ["table 1", "5"],
+        ["S 0 1 1 1 0", "S 1 8 1 2 0", "X 51 2 0 0"],
+        "The text has more bytes than the program lent; 35,097 are enough for every text.",
     ),
 ]
 

@@ -1,9 +1,10 @@
 """Makes containers from readable text, and text from containers. docs/CONTAINER.md describes both.
 
-    container make TEXT DIR                     writes a file for each container of TEXT into DIR
+    container make TEXT DIR                     writes a file for each container of TEXT into DIR, and one for its draws, where TEXT
+                                                has them
     container verify TEXT DIR [NAMES [ANSWERS]] sees whether the files of DIR are those that TEXT makes, and whether the files NAMES
                                                 and ANSWERS are what 'names' and 'expect' print
-    container names TEXT                        prints the containers' names, one to a line
+    container names TEXT                        prints the files' names, one to a line
     container expect TEXT                       prints the answers that TEXT expects, as the trial programs do
     container show FILE                         prints the container FILE as text
     container label WORD                        explains a label: eight hexadecimal digits, or stages as 'T(cut3)+A(sum,20)'
@@ -24,11 +25,11 @@ from words import Fault
 
 
 def names_of(text):
-    return "".join(f"{source.name}\n" for source in text.sources)
+    return "".join(f"{name}\n" for name in text.file_names())
 
 
 def make(path, folder):
-    made = Text(path).containers()
+    made = Text(path).files()
     try:
         os.makedirs(folder, exist_ok=True)
     except OSError as error:
@@ -45,7 +46,7 @@ def contents(path, most):
 
 def verify(path, folder, names_path=None, answers_path=None):
     text = Text(path)
-    wanted = {os.path.join(folder, name): data for name, data in text.containers().items()}
+    wanted = {os.path.join(folder, name): data for name, data in text.files().items()}
     try:
         found = {os.path.join(folder, name) for name in os.listdir(folder)}
     except OSError as error:

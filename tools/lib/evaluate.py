@@ -1,29 +1,42 @@
 """A plain evaluation of a plan, which keeps where each cell came from. crates/plan/specs has the definitions.
 
-This is a reading of its own, beside the monitor's, to explain an output: what is released comes from the monitor alone.
+This is a reading of its own, beside the monitor's, to explain an output: what is released comes from the monitor alone. It needs no
+draws: a value that NOISE makes is not known, and where such values decide which rows a step makes, the evaluation ends.
 """
 from collections import Counter, namedtuple
 
 import labels
 import steps
-from layout import ROWS, taken
+from layout import DRAWS, ROWS, taken
 
 OVER = 2**47
+DRAWN = None  # a value that the draws decide, OVER or in range
 LONGEST_TEXT = 35097  # bytes of a released table's text
 
-# a cell with what it was made of: a FromTable, a FromApply or a FromGroup; a copy keeps it
+# a cell with what it was made of: a FromTable, a FromApply, a FromGroup or a FromNoise; a copy keeps it
 Cell = namedtuple("Cell", "value label source")
 FromTable = namedtuple("FromTable", "table row column")
 FromApply = namedtuple("FromApply", "step first")  # the step's number, and the first operand's cell
 FromGroup = namedtuple("FromGroup", "step group members first")  # the group's number, its cells, its first row's origin
+FromNoise = namedtuple("FromNoise", "step first")  # the step's number, and the cell whose value the draw was added to
 # a row's origin: the places it was joined from, each the row of a table or of a GROUP
 TableRow = namedtuple("TableRow", "table row")
 GroupRow = namedtuple("GroupRow", "step row")
 Row = namedtuple("Row", "cells origin")
 Table = namedtuple("Table", "columns rows")
 Refused = namedtuple("Refused", "number step row column")
-# the trace lines, the refusal or None, and the stack where the evaluation ended
-Result = namedtuple("Result", "lines refused stack")
+# what the container does not settle: how many draws were lent, and where a cell that the draws decide is the first OVER, or None
+Told = namedtuple("Told", "draws over", defaults=(DRAWS, None))
+# what a step may use beside the stack: the container's tables, and the number of draws left
+Given = namedtuple("Given", "tables left")
+
+
+class Result(namedtuple("Result", "plan lines refused stack")):
+    """The trace lines, the refusal or None, and the stack where the evaluation ended."""
+
+    def settled(self):
+        """Whether it came to its release or its refusal, and no step's rows were left to the draws."""
+        return self.refused is not None or len(self.lines) == len(self.plan)
 
 
 def settled(value):
@@ -43,11 +56,16 @@ def first_not_clear(table, columns):
     return None
 
 
-# The seven steps: what the labels refuse, (number, row, column) or None, and the table made
+def drawn(table, columns):
+    """Whether the draws decide a value in these columns."""
+    return any(row.cells[column].value is DRAWN for row in table.rows for column in columns)
 
 
-def scan(step, k, tables, stack):
-    table = tables[step.a]
+# The eight steps: what is refused, (number, row, column) or None, and the table made; twice None where the draws decide its rows
+
+
+def scan(step, k, given, stack):
+    table = given.tables[step.a]
     rows = []
     for r, cells in enumerate(table.rows):
         made = tuple(Cell(v, label, FromTable(step.a, r, c)) for c, (v, label) in enumerate(cells))
@@ -55,7 +73,7 @@ def scan(step, k, tables, stack):
     return None, Table(table.columns, rows)
 
 
-def union(step, k, tables, stack):
+def union(step, k, given, stack):
     left, right = stack[-2:]
     return None, Table(left.columns, left.rows + right.rows)
 
@@ -74,10 +92,10 @@ def joined_count(step, left, right):
     return sum(keys[row.cells[step.a].value] for row in left.rows)
 
 
-def join(step, k, tables, stack):
+def join(step, k, given, stack):
     left, right = stack[-2:]
     refusal = join_refusal(step, left, right)
-    if refusal:
+    if refusal or drawn(left, [step.a]) or drawn(right, [step.b]):
         return refusal, None
     if joined_count(step, left, right) > ROWS:
         return (34, ROWS, 0), None
@@ -103,16 +121,19 @@ def holds(comparison, a, b):
     return (a == b, a != b, a < b, a <= b, a > b, a >= b)[comparison]
 
 
-def filter_rows(step, k, tables, stack):
+def filter_rows(step, k, given, stack):
     table = stack[-1]
-    place = first_not_clear(table, sorted({step.a, step.d} if step.c == 1 else {step.a}))
+    operands = sorted({step.a, step.d} if step.c == 1 else {step.a})
+    place = first_not_clear(table, operands)
     if place:
         return (31, *place), None
+    if drawn(table, operands):
+        return None, None
     rows = [row for row in table.rows if holds(step.b, row.cells[step.a].value, second_value(step, row))]
     return None, Table(table.columns, rows)
 
 
-def keep(step, k, tables, stack):
+def keep(step, k, given, stack):
     columns = steps.columns_of(step.a)
     rows = [Row(tuple(row.cells[c] for c in columns), row.origin) for row in stack[-1].rows]
     return None, Table(len(columns), rows)
@@ -121,8 +142,10 @@ def keep(step, k, tables, stack):
 def transformed(step, value, row):
     """A value after APPLY's operation."""
     other = second_value(step, row)
-    if not (in_range(value) and in_range(other)):
+    if OVER in (value, other):
         return OVER
+    if DRAWN in (value, other):
+        return DRAWN
     if step.b == steps.CUT:
         return abs(value) // 10**other * (-1 if value < 0 else 1)
     if step.b == steps.BAND:
@@ -143,7 +166,7 @@ def apply_refusal(step, table):
     return None
 
 
-def apply(step, k, tables, stack):
+def apply(step, k, given, stack):
     table = stack[-1]
     refusal = apply_refusal(step, table)
     if refusal:
@@ -160,8 +183,10 @@ def apply(step, k, tables, stack):
 def aggregate_value(operation, values):
     if operation == 0:
         return len(values)
-    if not all(map(in_range, values)):
+    if OVER in values:
         return OVER
+    if DRAWN in values:
+        return DRAWN
     if operation == 4:
         return settled(sum(values) // len(values))
     return settled((sum, min, max)[operation - 1](values))
@@ -184,10 +209,10 @@ def group_refusal(step, table):
     return None
 
 
-def group(step, k, tables, stack):
+def group(step, k, given, stack):
     table, keys = stack[-1], steps.columns_of(step.a)
     refusal = group_refusal(step, table)
-    if refusal:
+    if refusal or drawn(table, keys):
         return refusal, None
     groups = {}
     for row in table.rows:
@@ -201,6 +226,28 @@ def group(step, k, tables, stack):
     return None, Table(len(keys) + 1, rows)
 
 
+def noise_refusal(step, table, left):
+    for number, row in enumerate(table.rows):
+        if labels.forbids_n(row.cells[step.a].label):
+            return 32, number, step.a
+        if number == left:
+            return 37, number, step.a
+    return None
+
+
+def noise(step, k, given, stack):
+    table = stack[-1]
+    refusal = noise_refusal(step, table, given.left)
+    if refusal:
+        return refusal, None
+    rows = []
+    for row in table.rows:
+        first = row.cells[step.a]
+        new = Cell(OVER if first.value == OVER else DRAWN, labels.after_n(first.label), FromNoise(k, first))
+        rows.append(Row(row.cells + (new,), row.origin))
+    return None, Table(table.columns + 1, rows)
+
+
 MAKERS = {
     steps.SCAN: scan,
     steps.UNION: union,
@@ -209,6 +256,7 @@ MAKERS = {
     steps.KEEP: keep,
     steps.APPLY: apply,
     steps.GROUP: group,
+    steps.NOISE: noise,
 }
 
 
@@ -216,13 +264,13 @@ def stages_left(table):
     return sum(bin(cell.label >> 28).count("1") for row in table.rows for cell in row.cells)
 
 
-def release_refusal(table):
+def release_refusal(table, over):
     place = first_not_clear(table, range(table.columns))
     if place:
         return (35, *place)
     for number, row in enumerate(table.rows):
         for column, cell in enumerate(row.cells):
-            if not in_range(cell.value):
+            if cell.value == OVER or cell.value is DRAWN and (number, column) == over:
                 return 36, number, column
     return None
 
@@ -234,20 +282,23 @@ def text_of(table):
     return "".join(f"{','.join(line)}\r\n" for line in lines)
 
 
-def evaluate(plan, tables):
-    """The plan of an accepted container over its tables, to the release or the refusal."""
-    lines, stack = [], []
+def draws_used(lines):
+    """How many draws the steps of these trace lines have used."""
+    return sum(rows for kind, rows, *_ in lines if kind == steps.NOISE)
+
+
+def evaluate(plan, tables, told=Told()):
+    """The plan of an accepted container over its tables, to the release, the refusal, or a step whose rows the draws decide."""
+    lines, stack, refusal = [], [], None
     for k, step in enumerate(plan):
-        refusal, made = MAKERS[step.kind](step, k, tables, stack)
-        if refusal is None and len(made.rows) > ROWS:
+        refusal, made = MAKERS[step.kind](step, k, Given(tables, told.draws - draws_used(lines)), stack)
+        if made and len(made.rows) > ROWS:
             refusal = (34, ROWS, 0)
-        if refusal:
-            number, row, column = refusal
-            return Result(lines, Refused(number, k, row, column), stack)
+        if refusal or not made:
+            break
         lines.append((step.kind, len(made.rows), made.columns, stages_left(made)))
         stack = stack[: len(stack) - taken(step)] + [made]
-    refusal = release_refusal(stack[-1])
-    if refusal:
-        number, row, column = refusal
-        return Result(lines, Refused(number, len(plan), row, column), stack)
-    return Result(lines, None, stack)
+    else:
+        refusal = release_refusal(stack[-1], told.over)
+    refused = Refused(refusal[0], len(lines), *refusal[1:]) if refusal else None
+    return Result(plan, lines, refused, stack)

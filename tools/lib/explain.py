@@ -6,13 +6,14 @@
 
 The output is the monitor's own: where a line does not fit, nothing of it is explained, and one line on standard error says which one
 and why. With the container the script evaluates the plan itself, to compare and to explain; what is released comes from the
-monitor alone. No value of a refused container is printed. Steps, groups, tables, rows and columns count from 0.
+monitor alone. It needs no draws: a value that NOISE made is not compared. No value of a refused container is printed. Steps, groups,
+tables, rows and columns count from 0.
 
 Exit status: 0 the output, a release or a refusal, is explained; 1 a line does not fit; 2 something could not be read or written.
 """
 import console
 from printed import LONGEST_OUTPUT, followed, lines_of
-from reading import Reading, fitted
+from reading import Reading, fitted, told
 from sentences import Explained
 
 
@@ -22,7 +23,7 @@ def explained(data, path=None):
     lines = lines_of(data)
     followed(lines)
     if reading:
-        fitted(lines, reading)
+        fitted(lines, reading.evaluated(told(lines)))
     return "".join(f"{sentence}\n" for sentence in Explained(lines, reading).sentences())
 
 

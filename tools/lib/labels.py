@@ -65,7 +65,7 @@ def faults(word):
         found.append("A is present with a group minimum of 0, and this is 1 to 1,023")
     if minimum(word) and not has(word, "A"):
         found.append(f"it has a group minimum, {minimum(word)}, and A (bit 29) is absent")
-    if word >> 23 & 1 and not has(word, "N"):
+    if allows_noise(word) and not has(word, "N"):
         found.append("it allows noise at N, and N (bit 28) is absent")
     return found
 
@@ -81,6 +81,10 @@ def without_a(word):
     return word & ~(1 << 29 | 31 << 16 | 1023)
 
 
+def without_n(word):
+    return word & ~(1 << 28 | 1 << 23)
+
+
 def allows_transform(word, operation, cut_digits):
     """T allows the operation: 0 add, 1 sub, 2 cut of so many digits, 3 band."""
     return word >> (24 + operation) & 1 == 1 and (TRANSFORMS[operation] != "cut" or digits(word) <= cut_digits)
@@ -90,12 +94,20 @@ def allows_aggregate(word, operation):
     return word >> (16 + operation) & 1 == 1
 
 
+def allows_noise(word):
+    return word >> 23 & 1 == 1
+
+
 def forbids_t(word):
     return highest(word) == "H"
 
 
 def forbids_a(word):
     return highest(word) in ("H", "T")
+
+
+def forbids_n(word):
+    return highest(word) in ("H", "T", "A")
 
 
 def after_t(word, operation, cut_digits):
@@ -107,6 +119,11 @@ def after_a(word, operation, rows):
     """The label that an aggregate over so many rows leaves."""
     enough = allows_aggregate(word, operation) and minimum(word) <= rows
     return without_a(word) if highest(word) == "A" and enough else word
+
+
+def after_n(word):
+    """The label that noise leaves."""
+    return without_n(word) if highest(word) == "N" and allows_noise(word) else word
 
 
 def composed(a, b):
@@ -131,7 +148,7 @@ def stage_text(word, stage):
         return "T(" + ",".join(f"cut{digits(word)}" if name == "cut" else name for name in transforms(word)) + ")"
     if stage == "A":
         return "A(" + ",".join(aggregates(word) + [str(minimum(word))]) + ")"
-    return "N(noise)" if word >> 23 & 1 else "N()"
+    return "N(noise)" if allows_noise(word) else "N()"
 
 
 def label_text(word):
@@ -226,23 +243,33 @@ def applications(word):
     return [f"cut by at least {plural(digits(word), 'digit')}" if name == "cut" else name for name in transforms(word)]
 
 
+def aggregation(word):
+    """The aggregates that A allows, as words of a GROUP."""
+    return f"{either(aggregates(word))} over at least {plural(minimum(word), 'row')}"
+
+
+def removal(word, stage):
+    """The steps that remove T or A, in words."""
+    return either([f"APPLY {name}" for name in applications(word)]) if stage == "T" else f"GROUP with {aggregation(word)}"
+
+
 def asks(word, stage):
     """What a stage of a label asks for."""
     text = stage_text(word, stage)
     if stage == "H":
-        return "no step removes H, so no APPLY or GROUP may use the cell, and it is never released"
+        return "no step removes H, so no APPLY, GROUP or NOISE may use the cell, and it is never released"
     if stage == "T" and transforms(word):
         return f"{text} asks for an APPLY of {either(applications(word))}"
     if stage == "A" and aggregates(word):
-        return f"{text} asks for a GROUP with {either(aggregates(word))} over at least {plural(minimum(word), 'row')}"
-    if stage == "N":
-        return f"{text} asks for noise, and no plan has such a step, so neither the cell nor what is made of it is released"
+        return f"{text} asks for a GROUP with {aggregation(word)}"
+    if stage == "N" and allows_noise(word):
+        return f"{text} asks for a NOISE"
     return f"{text} allows nothing, so no step removes it, and neither the cell nor what is made of it is released"
 
 
 def removable(word, stage):
     """Whether some step can remove the stage, once it is the highest."""
-    return bool(transforms(word) if stage == "T" else aggregates(word) if stage == "A" else [])
+    return bool({"H": False, "T": transforms(word), "A": aggregates(word), "N": allows_noise(word)}[stage])
 
 
 def explained(word):

@@ -11,6 +11,7 @@ from words import plural
 
 LONGEST = 65536
 COLUMNS, ROWS, STEPS, TABLES, DEPTH = 8, 256, 64, 8, 3
+DRAWS = (STEPS - 1) * ROWS  # no plan uses more: its first step is a SCAN
 CELL = 12
 
 # why the input is refused: document 01's number, the byte offset, and the reason in words
@@ -204,7 +205,7 @@ def made_columns(step, widths, stack):
         return len(steps.columns_of(step.a))
     if step.kind == steps.GROUP:
         return len(steps.columns_of(step.a)) + 1
-    return stack[-1] + (step.kind == steps.APPLY)
+    return stack[-1] + (step.kind in (steps.APPLY, steps.NOISE))
 
 
 def width_fault(step, widths, stack):
@@ -224,6 +225,15 @@ def width_fault(step, widths, stack):
 def taken(step):
     """How many tables a step takes off the stack."""
     return {steps.SCAN: 0, steps.UNION: 2, steps.JOIN: 2}.get(step.kind, 1)
+
+
+def columns_made(plan, widths):
+    """The columns of the table that each step of an accepted plan makes."""
+    stack, made = [], []
+    for step in plan:
+        made.append(made_columns(step, widths, stack))
+        stack = stack[: len(stack) - taken(step)] + made[-1:]
+    return made
 
 
 def check_step(step, at, widths, stack):

@@ -10,8 +10,10 @@ from words import plural
 LONGEST_OUTPUT = 65536  # bytes; 64 lines S and 256 lines R are shorter
 
 INPUT = range(11, 20)  # refusals with a byte offset
+NO_DRAW = 37  # no draw is left for a row
 NO_ROOM = 51  # the text of a release has no room
-STATE = (1, *range(31, 37), NO_ROOM)  # refusals with a step, a row and a column
+STATE = (1, *range(31, 38), NO_ROOM)  # refusals with a step, a row and a column
+AT_RELEASE = (35, 36, NO_ROOM)  # those that come after the last step
 
 # a line: its letter and its numbers
 Line = namedtuple("Line", "letter numbers")
@@ -154,7 +156,7 @@ def shape_fault(shape):
 
 def step_fault(kind, made, stack):
     """Why a step of this kind cannot make this from these, or None."""
-    if kind not in range(1, 8):
+    if kind not in range(1, len(steps.KINDS)):
         return f"kind {kind} does not exist"
     needs = {1: 0, 2: 2, 3: 2}.get(kind, 1)
     name = steps.KINDS[kind]
@@ -186,8 +188,10 @@ def single_fits(kind, made, read):
         return made.columns == read.columns and made.rows <= read.rows and made.stages <= read.stages
     if kind == steps.KEEP:
         return made.rows == read.rows and made.columns <= read.columns and made.stages <= read.stages
-    if kind == steps.APPLY:
-        return made.rows == read.rows and made.columns == read.columns + 1 and read.stages <= made.stages <= 2 * read.stages
+    if kind in (steps.APPLY, steps.NOISE):
+        most = read.stages if kind == steps.APPLY else min(read.rows, read.stages)  # NOISE leaves N alone
+        wider = made.rows == read.rows and made.columns == read.columns + 1
+        return wider and read.stages <= made.stages <= read.stages + most
     grouped = made.rows <= read.rows and (made.rows > 0) == (read.rows > 0)
     return grouped and made.columns <= read.columns + 1 and made.stages <= min(2 * made.rows, read.stages)
 
@@ -220,7 +224,7 @@ def state_place_fault(number, step, row, column, stack, finished):
         return f"it is a refusal at step {step}, and step {finished} comes next"
     if not stack:
         return f"refusal {number} needs a table, and no step is finished"
-    if step == STEPS and number < 35:
+    if step == STEPS and number not in AT_RELEASE:
         return f"a plan has at most {STEPS} steps"
     if number == 34:
         return too_many_fault(row, column, stack)
@@ -231,7 +235,7 @@ def state_place_fault(number, step, row, column, stack, finished):
     read = stack[-2:] if number == 31 else stack[-1:]
     if row >= sum(shape.rows for shape in read) or column >= max(shape.columns for shape in read):
         return f"there is no row {row}, column {column} in what step {step} can read"
-    if not any(shape.stages for shape in read):
+    if number != NO_DRAW and not any(shape.stages for shape in read):
         return f"refusal {number} needs a cell with a label, and no stage is left"
     return None
 

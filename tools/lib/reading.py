@@ -5,12 +5,31 @@ import evaluate
 import layout
 import steps
 from console import plain, read_file
-from printed import NO_ROOM, Line, Misfit
+from printed import AT_RELEASE, NO_DRAW, NO_ROOM, Line, Misfit
 from words import plural
+
+# the refusals of a step, with the kinds of steps that give them
+REFUSES = {
+    31: (steps.JOIN, steps.FILTER, steps.GROUP),
+    32: (steps.APPLY, steps.GROUP, steps.NOISE),
+    33: (steps.APPLY,),
+    34: (steps.UNION, steps.JOIN),
+    NO_DRAW: (steps.NOISE,),
+}
+
+
+def told(lines):
+    """What an output tells of the draws: how many there were, where too few were lent, and which cell is the first OVER."""
+    letter, (number, *place) = lines[-1]
+    if (letter, number) == ("X", NO_DRAW):
+        return evaluate.Told(draws=evaluate.draws_used(line.numbers[1:] for line in lines[:-1]) + place[1])
+    if (letter, number) == ("X", 36):
+        return evaluate.Told(over=tuple(place[1:]))
+    return evaluate.Told()
 
 
 class Reading:
-    """A container's file: why its input is refused, or its plan, its tables and the evaluation."""
+    """A container's file: why its input is refused, or its plan, its tables and, once it was evaluated, the evaluation."""
 
     def __init__(self, path):
         self.path = plain(path)
@@ -19,18 +38,42 @@ class Reading:
         self.plan, self.tables, self.result = [], [], None
         if self.refusal is None:
             self.plan, self.tables = layout.contents(data)
-            self.result = evaluate.evaluate(self.plan, self.tables)
+
+    def evaluated(self, told):
+        """The same after the evaluation, where this is told of the draws."""
+        if self.refusal is None:
+            self.result = evaluate.evaluate(self.plan, self.tables, told)
+        return self
+
+    def settled(self):
+        """Whether the container settles every line, the values that NOISE makes left out."""
+        return self.result is None or self.result.settled()
 
     def lines(self, room=True):
-        """The lines that the monitor prints by this reading; without room for its text, 51 stands in place of a release's rows."""
+        """The lines that the monitor prints by this reading, as far as it is settled, with None for a value that the draws decide; without
+        room for its text, 51 stands in place of a release's rows."""
         if self.refusal:
             return [Line("X", [self.refusal.number, self.refusal.place])]
         lines = [Line("S", [k, *line]) for k, line in enumerate(self.result.lines)]
         if self.result.refused:
             return lines + [Line("X", list(self.result.refused))]
+        if not self.settled():
+            return lines
         if not room:
             return lines + [Line("X", [NO_ROOM, len(self.plan), 0, 0])]
         return lines + [Line("R", [cell.value for cell in row.cells]) for row in self.result.stack[-1].rows]
+
+    def open_lines(self, lines):
+        """What the container asks of an output's lines from the step on whose rows the draws decide: of a step its kind and its columns,
+        with None for the rest, and of the end that a refusal is one of its step's."""
+        finished = len(self.result.lines)
+        columns = layout.columns_made(self.plan, [table.columns for table in self.tables])
+        wanted = [Line("S", [k, self.plan[k].kind, None, columns[k], None]) for k in range(finished, len(self.plan))]
+        last = lines[-1]
+        number, step = last.numbers[:2] if last.letter == "X" else (None, None)
+        if number in REFUSES and finished <= step < len(self.plan) and self.plan[step].kind in REFUSES[number]:
+            return wanted[: step - finished] + [last]
+        return wanted + [line for line in lines[len(self.plan) :] if line.letter == "R" or number in AT_RELEASE]
 
     def step(self, k):
         return steps.described(self.plan[k])
@@ -51,7 +94,7 @@ def step_difference(line, wanted, reading):
     step = f"step {k} of the container, {reading.step(k)},"
     if line.numbers[1] != kind:
         return f"it says kind {line.numbers[1]}, and {step} has kind {kind}"
-    if line.numbers[2] != rows:
+    if rows not in (None, line.numbers[2]):
         return f"it says {plural(line.numbers[2], 'row')}, and {step} makes {rows}"
     if line.numbers[3] != columns:
         return f"it says {plural(line.numbers[3], 'column')}, and {step} makes {columns}"
@@ -71,15 +114,24 @@ def difference(line, wanted, reading):
     return f"it is {phrase(line)}, and by the container {phrase(wanted)} stands here"
 
 
+def same(line, wanted):
+    """Whether a line is the one that the container asks for; None stands for every number."""
+    if line is None or wanted is None or line.letter != wanted.letter:
+        return line is wanted
+    return len(line.numbers) == len(wanted.numbers) and all(two in (None, one) for one, two in zip(line.numbers, wanted.numbers))
+
+
 def fitted(lines, reading):
     """Sees that every line is the one that the container asks for, and that none is missing.
 
-    After 1 no container was read. 51 may stand in place of the rows of every release: the container does not settle it.
+    After 1 no container was read. 51 may stand in place of the rows of every release: the container does not settle it. Nor does it settle
+    what NOISE makes.
     """
     if lines == [Line("X", [1, 0, 0, 0])]:
         return
     room = (lines[-1].letter, lines[-1].numbers[0]) != ("X", NO_ROOM)
-    for count, (line, wanted) in enumerate(zip_longest(lines, reading.lines(room)), 1):
-        if line != wanted:
+    wanted_lines = reading.lines(room) + ([] if reading.settled() else reading.open_lines(lines))
+    for count, (line, wanted) in enumerate(zip_longest(lines, wanted_lines), 1):
+        if not same(line, wanted):
             blame = f"the output was changed, is not that of {reading.path}, or is misread by this script"
             raise Misfit(count, f"{difference(line, wanted, reading)}: {blame}")

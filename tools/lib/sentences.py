@@ -1,7 +1,9 @@
 """Sentences for the monitor's output: what each step made, why it refused, and what to do."""
 import labels
 import steps
-from evaluate import LONGEST_TEXT, FromApply, FromTable, TableRow, cut_digits, joined_count, text_of
+from evaluate import LONGEST_TEXT, FromApply, FromNoise, FromTable, TableRow
+from evaluate import cut_digits, drawn, draws_used, evaluate, joined_count, text_of
+from printed import AT_RELEASE
 from words import plural
 
 # What a refusal says of itself where the container is not at hand. docs/REFUSALS.md has the same numbers.
@@ -24,20 +26,23 @@ STATE = {
     34: "the step would make more than 256 rows",
     35: "{cell} still has a stage of its label",
     36: "{cell} is OVER, a result outside the range of values",
+    37: "no draw is left for {cell}",
     51: "the program lent the monitor too few bytes for the table's comma-separated text",
 }
 CAUSES = {
     31: "Causes: the raw column was used, and not the copy that an APPLY appends; a cut took too few digits off; the operation is not"
     " among those that the label allows; a count or another aggregate kept its label, because its group has too few rows or the"
-    " label does not allow it; or H or N, which no step removes.",
+    " label does not allow it; an N that no NOISE has removed; or H, which no step removes.",
     32: "Causes: H, which no step removes; or, in a GROUP, a T that no APPLY has removed: the raw column was aggregated and not its"
-    " copy, a cut took too few digits off, or the operation is not among those that the label allows.",
+    " copy, a cut took too few digits off, or the operation is not among those that the label allows; or, in a NOISE, such a T, or an A"
+    " that no GROUP has removed.",
     33: "Causes: the operands stand the wrong way round; a labelled column is added to itself; or an earlier step did not remove the"
     " label, because it cut too few digits off, is not allowed by the label, or had too few rows in a group.",
     34: "Causes: in a JOIN, keys that repeat on both sides; in a UNION, tables that have more than 256 rows together.",
     35: "Causes: a group with fewer rows than a label asks for; an aggregate or operation that a label does not allow; a cut that took"
-    " too few digits off; a raw column left in beside its copy; or H or N, which no step removes.",
-    36: "Causes: a sum, a difference or a band left the range of values, or one of its operands was OVER already.",
+    " too few digits off; an N that no NOISE has removed; a raw column left in beside its copy; or H, which no step removes.",
+    36: "Causes: a sum, a difference, a band or a value with noise left the range of values, or one of its operands was OVER already.",
+    37: "Cause: a NOISE uses a draw for each row that it reads, and the program lent fewer. Run it again with new draws, and never with old ones.",
     51: f"Cause: the program lends fewer bytes than the text has; {LONGEST_TEXT:,} are enough for every text.",
 }
 # The clerk's action for each number, the same words as in docs/REFUSALS.md.
@@ -58,6 +63,7 @@ ACTIONS = {
     34: "Ask the analyst for a report over fewer rows. Never have the rows of one precinct split between reports.",
     35: "Publish nothing of it, no other row either. Ask the analyst for larger groups or fewer columns.",
     36: "Ask the analyst for another column or a coarser unit.",
+    37: "Have new draws made, enough for all steps of the plan, and run it again with these. Never use draws a second time.",
     51: "Tell the vendor of the program that calls the monitor. Your file is not at fault.",
 }
 
@@ -79,7 +85,7 @@ def row_place(origin):
 def source_place(source):
     if isinstance(source, FromTable):
         return f"row {source.row}, column {source.column} of table {source.table}"
-    if isinstance(source, FromApply):
+    if isinstance(source, (FromApply, FromNoise)):
         return f"what step {source.step} made"
     return f"the aggregate of group {source.group} in step {source.step}"
 
@@ -122,24 +128,35 @@ def left_on(cell, plan):
         asked = labels.asks(cell.label, labels.highest(cell.label))
         return f"It is {source_place(source)} as the container has it, labelled {text}: {asked}."
     step = plan[source.step]
-    if isinstance(source, FromApply):
+    if isinstance(source, (FromApply, FromNoise)):
         made = f"Step {source.step}, {steps.described(step)}, made it of {source_place(source.first.source)}"
-        return f"{made}: {apply_reason(step, source.first.label)}."
+        label = source.first.label
+        return f"{made}: {apply_reason(step, label) if isinstance(source, FromApply) else labels.asks(label, 'N')}."
     rows = len(source.members)
     kept = next(member for member in source.members if labels.after_a(member.label, step.b, rows))
     group = f"Step {source.step}, group {source.group}, first row: {row_place(source.first)}, has {plural(rows, 'row')}"
     return f"{group}; {group_reason(step, kept.label, rows)}."
 
 
-def forbidden(cell, plan):
-    """What 32 says of a cell: its label, and what to apply first."""
+def advice(label, kind):
+    """What comes before a GROUP or a NOISE that a label forbids."""
+    above = [stage for stage in labels.stages(label) if stage in ("TA" if kind == steps.NOISE else "T")]
+    for stage in above:
+        if not labels.removable(label, stage):
+            return labels.asks(label, stage)
+    ways = ", then ".join(labels.removal(label, stage) for stage in above)
+    use, maker = "NOISE on" if kind == steps.NOISE else "GROUP with", "APPLY" if above[-1] == "T" else "GROUP"
+    return f"first {ways}, then {use} the column that the {maker} appends"
+
+
+def forbidden(cell, plan, kind):
+    """What 32 says of a cell: its label, and what to apply before a step of this kind."""
     if not labels.removable(cell.label, labels.highest(cell.label)):
         return left_on(cell, plan)
-    text, operations = labels.label_text(cell.label), [f"APPLY {name}" for name in labels.applications(cell.label)]
-    advice = f"first {labels.either(operations)}, then GROUP with the column that the APPLY appends"
+    text, before = labels.label_text(cell.label), advice(cell.label, kind)
     if isinstance(cell.source, FromTable):
-        return f"It is {source_place(cell.source)} as the container has it, labelled {text}: {advice}."
-    return f"{left_on(cell, plan)} The label is {text}: {advice}."
+        return f"It is {source_place(cell.source)} as the container has it, labelled {text}: {before}."
+    return f"{left_on(cell, plan)} The label is {text}: {before}."
 
 
 def too_many(step, stack):
@@ -156,7 +173,18 @@ def over(cell, plan):
 
 def no_room(table):
     """How many bytes the text has that found no room."""
-    return f"The text has {len(text_of(table)):,} bytes, and the program lent fewer; {LONGEST_TEXT:,} are enough for every text."
+    open_values = drawn(table, range(table.columns))
+    length = "more bytes than the program lent" if open_values else f"{len(text_of(table)):,} bytes, and the program lent fewer"
+    return f"The text has {length}; {LONGEST_TEXT:,} are enough for every text."
+
+
+def no_draw(reading, k, left):
+    """How many draws a plan needs from step k on, for whose rows so many were left, and from its beginning."""
+    used, rows = draws_used(reading.result.lines), len(reading.result.stack[-1].rows)
+    need = rows + draws_used(evaluate(reading.plan, reading.tables).lines[k + 1 :])
+    some = f"{left or 'none'} {'was' if left == 1 else 'were'} left"
+    here = f"From step {k} on the plan needs at least {plural(need, 'draw')}, one for each row that a NOISE reads, and {some}"
+    return f"{here}. Run it again with at least {plural(used + need, 'new draw')}, and never with old ones."
 
 
 class Explained:
@@ -179,9 +207,17 @@ class Explained:
 
     def whole(self, rows, columns):
         shape = f"{plural(rows, 'row')} of {plural(columns, 'column')}"
-        if self.reading:
-            return f"The release is whole: {shape}."
-        return f"These lines fit one another: {shape}. {UNKNOWN}"
+        if not self.reading:
+            return f"These lines fit one another: {shape}. {UNKNOWN}"
+        if not self.reading.settled():
+            return f"These lines fit one another and the plan: {shape}. {self.decided()}"
+        noisy = [str(column) for column in range(columns) if drawn(self.result.stack[-1], [column])]
+        not_compared = f" The draws decide values of column{'s' * (len(noisy) > 1)} {', '.join(noisy)}, which are not compared."
+        return f"The release is whole: {shape}.{not_compared if noisy else ''}"
+
+    def decided(self):
+        """Why the container does not settle the lines from a step on."""
+        return f"Values that NOISE made decide the rows of step {len(self.result.lines)}, so from there on the rows are not compared."
 
     def name(self, k, kind=0):
         words = steps.described(self.plan[k]) if k < len(self.plan) else steps.KINDS[kind]
@@ -209,9 +245,13 @@ class Explained:
         return said
 
     def refused_state(self, number, k, row, column):
-        who = "The release" if number > 34 else self.name(k)
+        who = "The release" if number in AT_RELEASE else self.name(k)
         said = [f"{who} is refused ({number}): {STATE[number].format(cell=self.cell_place(number, k, row, column))}."]
-        return said + [self.reason(number, k, row, column) if self.reading else CAUSES[number]]
+        if not self.reading:
+            return said + [CAUSES[number]]
+        if not self.reading.settled():
+            return said + [self.decided(), CAUSES[number]]
+        return said + [self.reason(number, k, row, column)]
 
     def sides(self, number, k, row):
         """Which table a row of a refusal is of, counted from the top of the stack, and the row's number there."""
@@ -222,9 +262,9 @@ class Explained:
 
     def cell_place(self, number, k, row, column):
         """A cell of the table that the step reads, or of the table that would be released."""
-        if number > 34:
+        if number in AT_RELEASE:
             return f"row {row}, column {column} of the last table"
-        if not self.reading:
+        if not (self.reading and self.reading.settled()):
             join = " (in a JOIN the right rows are numbered on from the left ones)" if number == 31 else ""
             return f"row {row}, column {column} of what it reads{join}"
         if self.plan[k].kind == steps.JOIN:
@@ -236,12 +276,14 @@ class Explained:
         """What the container shows of a refusal because of the state."""
         if number == 34:
             return too_many(self.plan[k], self.result.stack)
+        if number == 37:
+            return no_draw(self.reading, k, row)
         if number == 51:
             return no_room(self.result.stack[-1])
-        table, at = self.sides(number, k, row) if number < 35 else (-1, row)
+        table, at = (-1, row) if number in AT_RELEASE else self.sides(number, k, row)
         cell = self.result.stack[table].rows[at].cells[column]
         if number == 32:
-            return forbidden(cell, self.plan)
+            return forbidden(cell, self.plan, self.plan[k].kind)
         if number == 36:
             return over(cell, self.plan)
         raw = number == 35 and isinstance(cell.source, FromTable)

@@ -7,8 +7,8 @@ from console import quoted
 from labels import AGGREGATES, TRANSFORMS
 from words import Fault, choice, number
 
-KINDS = ("", "SCAN", "UNION", "JOIN", "FILTER", "KEEP", "APPLY", "GROUP")
-SCAN, UNION, JOIN, FILTER, KEEP, APPLY, GROUP = range(1, 8)
+KINDS = ("", "SCAN", "UNION", "JOIN", "FILTER", "KEEP", "APPLY", "GROUP", "NOISE")
+SCAN, UNION, JOIN, FILTER, KEEP, APPLY, GROUP, NOISE = range(1, 9)
 COMPARISONS = ("=", "!=", "<", "<=", ">", ">=")
 BAND, CUT = TRANSFORMS.index("band"), TRANSFORMS.index("cut")
 LEAST, MOST = -(2**47), 2**47 - 1
@@ -89,6 +89,7 @@ FAULTS = {
     KEEP: keep_fault,
     APPLY: apply_fault,
     GROUP: group_fault,
+    NOISE: lambda step: unused(step, ["b", "c", "d", "constant"]),
 }
 
 
@@ -97,7 +98,7 @@ def fault(step):
     if step.spare != 0:
         return "one of its bytes 5 to 7 is not zero"
     if step.kind not in FAULTS:
-        return f"kind {step.kind} does not exist; they are 1 to 7"
+        return f"kind {step.kind} does not exist; they are 1 to 8"
     return FAULTS[step.kind](step)
 
 
@@ -170,6 +171,12 @@ def group_fields(words):
     return {"a": mask(words[:-2]), "b": choice(words[-2], AGGREGATES, "aggregate"), "c": byte(words[-1])}
 
 
+def noise_fields(words):
+    if len(words) != 1:
+        raise misspelt("NOISE", words, "NOISE 1")
+    return {"a": byte(words[0])}
+
+
 FIELDS = {
     "SCAN": scan_fields,
     "UNION": union_fields,
@@ -178,6 +185,7 @@ FIELDS = {
     "KEEP": keep_fields,
     "APPLY": apply_fields,
     "GROUP": group_fields,
+    "NOISE": noise_fields,
 }
 
 
@@ -233,7 +241,7 @@ def words_for(step):
         return f"APPLY {a} {TRANSFORMS[b]} {second(step)}"
     if kind == GROUP:
         return " ".join(["GROUP", *map(str, columns_of(a)), AGGREGATES[b], str(c)])
-    return {SCAN: f"SCAN {a}", UNION: "UNION", JOIN: f"JOIN {a} {b}"}[kind]
+    return {SCAN: f"SCAN {a}", UNION: "UNION", JOIN: f"JOIN {a} {b}", NOISE: f"NOISE {a}"}[kind]
 
 
 def text(step):
@@ -261,4 +269,4 @@ def described(step):
         keys = columns_of(a)
         by = f"by column{'s' * (len(keys) > 1)} {', '.join(map(str, keys))}" if keys else "of all rows"
         return f"GROUP {by}, {AGGREGATES[b]} of column {c}"
-    return f"SCAN of table {a}" if kind == SCAN else "UNION"
+    return {SCAN: f"SCAN of table {a}", UNION: "UNION", NOISE: f"NOISE on column {a}"}[kind]

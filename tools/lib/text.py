@@ -19,7 +19,10 @@ LONGEST_MADE = 2 * layout.LONGEST  # bytes of a container, a wrong one too
 MOST_DAMAGE = 100  # directives for a container
 LONGEST_OF_ALL = 16 * 2**20  # bytes of all containers of a text, 1,024 for each, and characters of repeated lines, 64 for each
 
-SECTIONS = ("plan", "table", "part", "raw", "damage", "answer")
+SECTIONS = ("plan", "table", "part", "raw", "damage", "draws", "answer")
+FORMS = ("check", "run", "noise")  # answers of the input checks, of a run without draws, and of a run with the draws of a section
+DRAWS = ".draws"  # behind a container's name, the file of its draws
+LONGEST_DRAW = 21  # bytes of its lines
 PAIRS = "pairs of hexadecimal digits, as in '00 FF'"
 
 
@@ -154,7 +157,7 @@ class Source:
     def __init__(self, name, line, budget):
         self.name, self.line, self.budget = name, line, budget
         self.comments, self.answer, self.parts, self.damage = [], [], [], []
-        self.raw = None
+        self.raw, self.draws = None, None
 
     # Reading
 
@@ -175,6 +178,10 @@ class Source:
             if self.parts or self.raw is not None:
                 raise Fault("'raw' is the whole container, so there is no other part")
             self.raw = Part("raw", line)
+        elif section == "draws":
+            if self.draws is not None:
+                raise Fault(f"{self.name} has its draws already")
+            self.draws = []
 
     def add_part(self, part):
         if self.raw is not None:
@@ -187,6 +194,10 @@ class Source:
         """Adds a line to the section that was begun."""
         if section == "answer":
             self.answer += repeated(line, self.budget)
+        elif section == "draws":
+            words = [word for one in repeated(line, self.budget) for word in one.split()]
+            self.budget.take(LONGEST_DRAW * len(words))
+            self.draws += [number(word, what="the draw") for word in words]
         elif section == "raw":
             self.raw.add(zeros_or_bytes(line.split()), count, self.budget)
         elif section == "damage":
@@ -244,6 +255,12 @@ class Source:
         if not self.marked_wrong():
             self.check(bytes(whole))
         return bytes(whole)
+
+    def made_draws(self):
+        """The bytes of the file of draws."""
+        if self.draws is None:
+            raise Fault(f"{self.name} has no section 'draws', which may be empty")
+        return "".join(f"{draw}\n" for draw in self.draws).encode()
 
     def assembled(self):
         parts = [part.made() for part in self.parts]
@@ -355,7 +372,7 @@ DIRECTIVES = {
 
 
 class Text:
-    """The containers of a text, and whether their answers are those of the input checks or of a run."""
+    """The containers of a text, and whether their answers are those of the input checks, of a run, or of a run with draws."""
 
     def __init__(self, path):
         self.path, self.form, self.sources, self.section = path, "run", [], None
@@ -395,6 +412,8 @@ class Text:
         elif not self.sources:
             raise Fault(f"{quoted(line)} stands before the first line 'container NAME'")
         elif words[0] in SECTIONS:
+            if words[0] == "draws" and self.form != "noise":
+                raise Fault("'draws' stands only in a text that begins with 'answers noise'")
             self.sources[-1].begin(words, count)
             self.section = words[0]
         else:
@@ -402,8 +421,8 @@ class Text:
 
     def begin_answers(self, words):
         if self.sources or len(words) != 2:
-            raise Fault("'answers check' or 'answers run' stands before the first container")
-        choice(words[1], ["check", "run"], "kind of answers")
+            raise Fault("'answers check', 'answers run' or 'answers noise' stands before the first container")
+        choice(words[1], FORMS, "kind of answers")
         self.form = words[1]
 
     def begin_container(self, words, count):
@@ -417,9 +436,19 @@ class Text:
         self.sources.append(Source(words[1], count, self.budget))
         self.section = None
 
-    def containers(self):
-        """Each container's name and bytes."""
-        return {source.name: self.guarded(source.line, source.made) for source in self.sources}
+    def file_names(self):
+        """The names of all files: each container's, and behind it that of its draws, where the text has them."""
+        ends = ("", DRAWS) if self.form == "noise" else ("",)
+        return [source.name + end for source in self.sources for end in ends]
+
+    def files(self):
+        """Each file's name and bytes."""
+        files = {}
+        for source in self.sources:
+            files[source.name] = self.guarded(source.line, source.made)
+            if self.form == "noise":
+                files[source.name + DRAWS] = self.guarded(source.line, source.made_draws)
+        return files
 
     def expected(self):
         """The answers, as the trial programs print them."""

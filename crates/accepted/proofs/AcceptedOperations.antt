@@ -10,7 +10,7 @@ use Rattle.label_discharge.specs.Discharge.{transformExists}
 use Rattle.layout.specs.Layout.{partOf}
 use Rattle.plan.specs.Table.{Each}
 use Rattle.plan.specs.declared.Step.{Step}
-use Rattle.plan.specs.declared.Step.the-variants.{Scan, Union, Join, Filter, Keep, Apply, Group}
+use Rattle.plan.specs.declared.Step.the-variants.{Scan, Union, Join, Filter, Keep, Apply, Group, Noise}
 use Rattle.plan.specs.declared.Transform.the-variants.{Add, Sub, Cut, Band}
 use Rattle.plan_part.specs.PlanPart.{stepCount}
 use Rattle.records.specs.Record.{fieldsAt, operandWritten, operandOf, amountFits, zeros, when, comparisonOf, aggregateOf, applyBy, byKind, stepOf}
@@ -56,7 +56,8 @@ kind-has kind f =
     (has-cond (eqb kind 4) _ _ (has-when (ltb (f .b) 6 && operandWritten f) (Filter (f .a) (comparisonOf (f .b)) (operandOf f)) (λ _. refl))
     (has-cond (eqb kind 5) _ _ (has-when (not (eqb (f .a) 0) && zeros (f .b + f .c + f .d) (f .constant)) (Keep (f .a)) (λ e. and-eq-true-iff (not (eqb (f .a) 0)) (zeros (f .b + f .c + f .d) (f .constant)) .0 e .0))
     (has-cond (eqb kind 6) _ _ (apply-has (f .b) f)
-    (has-cond (eqb kind 7) _ _ (has-when (ltb (f .b) 5 && zeros (f .d) (f .constant)) (Group (f .a) (aggregateOf (f .b)) (f .c)) (λ _. refl)) tt))))))
+    (has-cond (eqb kind 7) _ _ (has-when (ltb (f .b) 5 && zeros (f .d) (f .constant)) (Group (f .a) (aggregateOf (f .b)) (f .c)) (λ _. refl))
+    (has-cond (eqb kind 8) _ _ (has-when (zeros (f .b + f .c + f .d) (f .constant)) (Noise (f .a)) (λ _. refl)) tt)))))))
 
 step-has : (f : Fields) → Has (stepOf f)
 unfolding stepOf

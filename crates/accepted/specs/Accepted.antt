@@ -15,7 +15,7 @@ use Rattle.plan.specs.Table.{Each, Shaped, Table, noTable}
 use Rattle.plan.specs.Steps.{takes}
 use Rattle.plan.specs.Widths.{enoughTables, placed, madeColumns}
 use Rattle.plan.specs.declared.Step.{Step}
-use Rattle.plan.specs.declared.Step.the-variants.{Scan, Union, Join, Filter, Keep, Apply, Group}
+use Rattle.plan.specs.declared.Step.the-variants.{Scan, Union, Join, Filter, Keep, Apply, Group, Noise}
 use Rattle.plan_part.specs.PlanPart.{stepCount}
 use Rattle.plan_part.specs.promises.Steps.{stepAt}
 use Rattle.records.specs.declared.Found.the-variants as found
@@ -75,6 +75,7 @@ operationExists (Filter column comparison operand) = true
 operationExists (Keep mask) = not (eqb mask 0)
 operationExists (Apply column transform) = operationFits transform
 operationExists (Group keys aggregate column) = true
+operationExists (Noise column) = true
 
 abbrev pub OperationsExist : Type 0
 OperationsExist = (bytes : List ℕ) → checkInput bytes ≡ accepted → Each (λ step. operationExists step ≡ true) (planOf bytes)

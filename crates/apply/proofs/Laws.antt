@@ -12,6 +12,7 @@ use Rattle.memory.specs.promises.Stack.{stackIn}
 use Rattle.memory.specs.promises.Steps.{fitsIn}
 use Rattle.plan.specs.Apply.{appliedRow, applied}
 use Rattle.plan.specs.Numbers.{transformCode, digitsTaken}
+use Rattle.plan.specs.Supply.{Supply}
 use Rattle.plan.specs.Table.{Row, Table, cellAt, Each}
 use Rattle.plan.specs.declared.Step.the-variants.{Apply}
 use Rattle.plan.specs.declared.Transform.{Transform}
@@ -21,9 +22,9 @@ use Rattle.memory.proofs.TopLabels.{top-formed}
 use Rattle.plan.proofs.SenseShape.{each-append, each-map}
 
 -- an operation that exists, on live tables whose labels are well-formed, asks no more than every step
-pub apply-fits : (column : ℕ) (transform : Transform) (tables : List Table) (w : Work) (stack : Stack) → fitsIn (Apply column transform) tables w stack ≡ true → operationFits transform ≡ true
-    → Each Labelled (stackIn w stack) → applyFits column transform tables w stack ≡ true
-apply-fits column transform tables w stack t o e = rw (t, o, top-formed column w stack e)
+pub apply-fits : (column : ℕ) (transform : Transform) (supply : Supply) (w : Work) (stack : Stack) → fitsIn (Apply column transform) supply w stack ≡ true → operationFits transform ≡ true
+    → Each Labelled (stackIn w stack) → applyFits column transform supply w stack ≡ true
+apply-fits column transform supply w stack t o e = rw (t, o, top-formed column w stack e)
 
 -- ---- the labels that APPLY makes
 

@@ -21,13 +21,15 @@ use Rattle.memory.specs.promises.Stack.{Ready, stackIn, widthsTo, withTable, li
 use Rattle.memory.specs.promises.Steps.{stepSays, verdict, fits, fitsIn, DoneWhere}
 use Rattle.plan.specs.Apply.{checkApply, applied}
 use Rattle.plan.specs.Steps.{check, make, tooMany}
+use Rattle.plan.specs.Supply.{Supply}
 use Rattle.plan.specs.Table.{Table, grid, top}
 use Rattle.plan.specs.Verdict.{fine}
 use Rattle.plan.specs.Widths.{enoughTables, transformColumnExists, columnsExist, madeColumns}
 use Rattle.plan.specs.declared.Step.{Step}
 use Rattle.plan.specs.declared.Step.the-variants.{Apply}
 use Rattle.plan.specs.declared.Transform.{Transform}
-use Rattle.apply.proofs.MakeLoop.{applied-count}
+use Rattle.apply.proofs.RowMade.{newOf, rows-are}
+use Rattle.extension.proofs.Extending.{made-count}
 use Rattle.memory.proofs.Finish.{answered-done, rows-done, fine-parts, or-nothing}
 use Rattle.memory.proofs.FormedTables.{formed-table}
 use Rattle.memory.proofs.StepAnswer.{the-type}
@@ -68,26 +70,26 @@ module _ (column : ℕ) (transform : Transform) where
         narrow = leb-true _ 8 (rw (top-width here) at (placed .1));
       }
 
-  module _ (tables : List Table) (w : Work) (stack : Stack) {table : LiveTable} {width : ℕ} (t : fitsIn step tables w stack ≡ true)
+  module _ (supply : Supply) (w : Work) (stack : Stack) {table : LiveTable} {width : ℕ} (t : fitsIn step supply w stack ≡ true)
       (f : ApplyFits column transform (length (w .values)) (length (w .labels)) stack table width) where
     -- all that is asked, as the code tests it
-    fits-is : applyFits column transform tables w stack ≡ operandFormed (w .labels) table column transform
+    fits-is : applyFits column transform supply w stack ≡ operandFormed (w .labels) table column transform
     fits-is =
         rw (t, table-within (f .inside-is), lt-ltb column (table .columns) (f .below))
         (ap (λ (b : Bool). operationFits transform && b) (ap (λ (s : List Table). columnFormed column (grid (top s))) (stack-top w (f .here)) ∙ ap (columnFormed column) (grid-is w (f .inside-is))))
 
-    verdict-is : verdict step tables (stackIn w stack) ≡ checkApply column transform (labelsIn (w .labels) table)
+    verdict-is : verdict step supply (stackIn w stack) ≡ checkApply column transform (labelsIn (w .labels) table)
     unfolding check tooMany
-    verdict-is = or-nothing _ ∙ ap (λ (s : List Table). check step (map grid s)) (stack-top w (f .here)) ∙ ap (checkApply column transform) (grid-is w (f .inside-is))
+    verdict-is = or-nothing _ ∙ ap (λ (s : List Table). check step (length (supply .draws)) (map grid s)) (stack-top w (f .here)) ∙ ap (checkApply column transform) (grid-is w (f .inside-is))
 
-    made-is : make step tables (stackIn w stack) ≡ record { columns = table .columns + 1; rows = rowsMade table column transform w }
+    made-is : make step supply (stackIn w stack) ≡ record { columns = table .columns + 1; rows = rowsMade table column transform w }
     unfolding make applied
-    made-is = ap (make step tables) (stack-top w (f .here))
+    made-is = ap (make step supply) (stack-top w (f .here))
 
     -- the labels refuse it, or are none
     pub refused-apply : (answer : StepAnswer) → OneOf (1 ∷ 2 ∷ []) (tagOf the-type answer) → stepSays answer ≡ applySays (w .labels) table column transform
-        → DoneWhere (applyFits column transform tables w stack) step tables w stack (record { answer = answer; stack = stack }) w
-    refused-apply answer k e = answered-done step tables w stack answer k verdict-is (e ∙ ap (λ (b : Bool). cond b (says (checkApply column transform (labelsIn (w .labels) table))) unfit) (sym fits-is))
+        → DoneWhere (applyFits column transform supply w stack) step supply w stack (record { answer = answer; stack = stack }) w
+    refused-apply answer k e = answered-done step supply w stack answer k verdict-is (e ∙ ap (λ (b : Bool). cond b (says (checkApply column transform (labelsIn (w .labels) table))) unfit) (sym fits-is))
 
     module _ (e : says fine ≡ applySays (w .labels) table column transform) where
       -- the operation exists, and the labels in the column are well-formed
@@ -97,13 +99,13 @@ module _ (column : ℕ) (transform : Transform) where
           (both .0, formed-table (w .labels) table column (both .1) .formed)
 
       pub made-apply : {after : Work} → RowsAt (table .at) (table .columns + 1) (table .rows) (rowsMade table column transform w) w after
-          → DoneWhere (applyFits column transform tables w stack) step tables w stack (record { answer = Made; stack = withTable stack (table .slot) width (table .rows) }) after
+          → DoneWhere (applyFits column transform supply w stack) step supply w stack (record { answer = Made; stack = withTable stack (table .slot) width (table .rows) }) after
       made-apply {after} rows =
           let p = fine-parts _ e in
-          rw (f .width-is) (rows-done step tables w stack (fits-is ∙ p .0) (table .slot) (table .columns + 1) (table .rows) (rowsMade table column transform w) after (f .is-ready)
+          rw (f .width-is) (rows-done step supply w stack (fits-is ∙ p .0) (table .slot) (table .columns + 1) (table .rows) (rowsMade table column transform w) after (f .is-ready)
           (verdict-is ∙ p .1) (f .here .low) (f .here .depth-is) made-is (f .narrow) (f .inside-is .few-rows)
-          (sym (applied-count column transform (table .columns) (table .rows) (drop (table .at) (cellsIn w)))) (at-is (f .here)) rows)
+          (sym (ap length (rows-are table column transform w) ∙ made-count (newOf column transform) table w (table .rows))) (at-is (f .here)) rows)
 
 -- arguments that do not fit APPLY
-pub misfit-first : (column : ℕ) (transform : Transform) (tables : List Table) (w : Work) (stack : Stack) → fitsIn (Apply column transform) tables w stack ≡ false → applyFits column transform tables w stack ≡ false
-misfit-first column transform tables w stack e = rw e
+pub misfit-first : (column : ℕ) (transform : Transform) (supply : Supply) (w : Work) (stack : Stack) → fitsIn (Apply column transform) supply w stack ≡ false → applyFits column transform supply w stack ≡ false
+misfit-first column transform supply w stack e = rw e

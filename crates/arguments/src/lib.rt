@@ -8,25 +8,27 @@ pub struct File {
     pub length: usize,
 }
 
-// Prints the name that an argument is, and reads its file into the bytes. Which bytes a file has, no contract can say.
-pub fn read_argument(index: usize, bytes: &mut [u8]) -> File
+// Reads the file that an argument names into the bytes, and prints the name first where `named`. Which bytes a file has, no contract can say.
+pub fn read_argument(index: usize, named: bool, bytes: &mut [u8]) -> File
     ensures { λ r. ⌜ Counts (r .length) (now (bytes .exit)) ⌝ }
 {
     let mut name = io::buffer();
-    let named = os::arg(index, &mut name);
-    let fd = os::open_read(&name[..named]);
+    let length = os::arg(index, &mut name);
+    let fd = os::open_read(&name[..length]);
     if fd < 0 {
-        os::fail(&name[..named]);
+        os::fail(&name[..length]);
         return File {
             opened: false,
             length: 0,
         };
     }
-    io::write_all(STDOUT_FILENO, &name[..named]);
-    let length = io::read_full(fd, bytes);
+    if named {
+        io::write_all(STDOUT_FILENO, &name[..length]);
+    }
+    let read = io::read_full(fd, bytes);
     libc::close(fd);
     File {
         opened: true,
-        length,
+        length: read,
     }
 }

@@ -77,12 +77,13 @@ fn plan_numbers(refusal: PlanRefusal) -> [u64; 2]
 // The number, the row and the column of a step's refusal.
 fn step_numbers(refusal: Refusal) -> [u64; 3]
     ensures { λ r. ⌜ r ≡ refusalTells (λ number row column. number ∷ row ∷ column ∷ []) refusal ⌝ }
-    ensures { λ r. ⌜ getD r 0 0 ≤ 34 ⌝ }
+    ensures { λ r. ⌜ getD r 0 0 ≤ 37 ⌝ }
 {
     match refusal {
         Refusal::NotClear(row, column) => [31, row as u64, column as u64],
         Refusal::Forbidden(row, column) => [32, row as u64, column as u64],
         Refusal::OperandNotClear(row, column) => [33, row as u64, column as u64],
         Refusal::TooMany => [34, 256, 0],
+        Refusal::NoDraw(row, column) => [37, row as u64, column as u64],
     }
 }

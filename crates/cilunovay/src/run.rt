@@ -10,6 +10,7 @@ use call_numbers::run_numbers;
 #[no_mangle]
 pub extern "C" fn cilunovay_run(
     container: &[u8],
+    draws: &[i64],
     values: &mut [i64],
     labels: &mut [u32],
     output: &mut [i64],
@@ -19,13 +20,13 @@ pub extern "C" fn cilunovay_run(
 ) -> u32
     ensures { λ r. ⌜ runCalled r
         (lent (now (values .exit)) (now (labels .exit)) (now (output .exit)) (now (trace .exit)) (now (text .exit))) (now (answer .exit))
-        ≡ runCall (given (now (container .entry)))
+        ≡ runCall (given (now (container .entry)) (now (draws .entry)))
         (lent (now (values .entry)) (now (labels .entry)) (now (output .entry)) (now (trace .entry)) (now (text .entry))) (now (answer .entry)) ⌝ }
 {
     if answer.len() < 4 {
         return 1;
     }
-    let told = evaluator::run(container, values, labels, output, trace, text);
+    let told = evaluator::run(container, draws, values, labels, output, trace, text);
     let numbers = run_numbers(told);
     answer[0] = numbers[0];
     answer[1] = numbers[1];

@@ -14,7 +14,7 @@ fn main() {
 // One byte more than the limit is read, so that a longer container shows.
 fn trial(index: usize) {
     let mut bytes = [0u8; 65537];
-    let file = arguments::read_argument(index, &mut bytes);
+    let file = arguments::read_argument(index, true, &mut bytes);
     let length = file.length;
     if !file.opened {
         return;

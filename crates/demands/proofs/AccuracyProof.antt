@@ -13,7 +13,7 @@ use Rattle.plan.specs.Evaluate.{Outcome, release, refuse}
 use Rattle.plan.proofs.SenseEnd.{released-clear, refusal-numbers}
 use Rattle.demands.specs.Accuracy.{valuesOf, ReleasedIsReleased, RefusedIsRefused, NoRoomIsRefused, TraceIsTrace, InputIsChecked, Released, ReleaseMeans, Refused, short, evaluated, no-room, RefusalMeans, RefusedInput, InputRefusalMeans}
 use Rattle.demands.specs.Answers.{Told, released, refusedInput, refusedState}
-use Rattle.demands.specs.Given.{checkGiven, planGiven, prepared}
+use Rattle.demands.specs.Given.{checkGiven, planGiven, supplyGiven}
 use Rattle.demands.specs.Lent.{enough}
 use Rattle.demands.specs.Monitor.{evaluation, runOutcome, answerOf, rowsOut, textOut, written, Begun}
 use Rattle.demands.proofs.InputNumbers.{input-numbers}
@@ -52,7 +52,7 @@ release-means given lent rows columns bytes =
           as-many-rows = r;
           as-many-columns = c;
           shaped = shaped;
-          clear = released-clear (planGiven given) (prepared given) table o;
+          clear = released-clear (planGiven given) (supplyGiven given) table o;
           output-is =
               ap (λ (n : ℕ). valuesOf table ++ drop n (lent .output))
               (length-map (flat (table .rows)) (λ cell. cell .value) ∙ flat-length (table .columns) (table .rows) shaped ∙ ap₂ _*_ r c);
@@ -76,7 +76,7 @@ refusal-means given lent number step row column =
     (λ few e. subst Why e (short few)) (λ n p long check e. absurd (let z : _≡_ {A = ℕ} 0 1 = cc in omega arith))
     (λ begun. by-room given lent (λ o. answerOf o ≡ refusedState number step row column → Refused given lent number step row column)
     (λ table o room e. absurd (let z : _≡_ {A = ℕ} 0 1 = cc in omega arith)) (λ table o few e. subst Why e (no-room begun o few))
-    (λ n s r c o e. let h = refusal-numbers (planGiven given) (prepared given) n s r c o in subst Why e (evaluated begun o (h .0) (h .1))))
+    (λ n s r c o e. let h = refusal-numbers (planGiven given) (supplyGiven given) n s r c o in subst Why e (evaluated begun o (h .0) (h .1))))
   where
     Why : Told → Type 0
     Why (released rows columns bytes) = Unit

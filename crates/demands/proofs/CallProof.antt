@@ -106,7 +106,7 @@ kept-leaves {lent} call from to e = record {
 pub call-leaves : CallLeaves
 call-leaves given lent answer = by-call given lent answer (Leaves lent) (λ _. kept-leaves (runCalled 1 lent answer) (omega arith) (omega arith) refl) told
   where
-    -- 31 to 36, and 51
+    -- 31 to 37, and 51
     begun-refusal : {number step row column : ℕ} → Begun given lent → 31 ≤ number
         → (monitor given lent .left .output ≡ lent .output) × (monitor given lent .left .text ≡ lent .text)
         → Leaves lent (runTold (ended (refusedState number step row column) (monitor given lent .left)) answer)

@@ -17,12 +17,13 @@ use Rattle.memory.specs.promises.Steps.{widthsOf}
 use Rattle.plan.specs.Keep.{keptCount}
 use Rattle.plan.specs.Masks.{inMask}
 use Rattle.plan.specs.Sense.Trace.{stackLeft}
-use Rattle.plan.specs.Steps.{takes, make}
+use Rattle.plan.specs.Steps.{takes, make, supplyAfter}
+use Rattle.plan.specs.Supply.{Supply}
 use Rattle.plan.specs.Table.{Each, Table, top}
 use Rattle.plan.specs.Widths.{enoughTables, operandColumnExists, columnsExist, madeColumns}
 use Rattle.plan.specs.declared.Step.{Step}
-use Rattle.plan.specs.declared.Step.the-variants.{Scan, Union, Join, Filter, Keep, Apply, Group}
-use Rattle.demands.specs.Given.{Given, checkGiven, planGiven, prepared}
+use Rattle.plan.specs.declared.Step.the-variants.{Scan, Union, Join, Filter, Keep, Apply, Group, Noise}
+use Rattle.demands.specs.Given.{Given, checkGiven, planGiven, prepared, supplyGiven}
 use Rattle.demands.proofs.Widths.{each-drop, made-columns, widths-drop, placed-after}
 
 -- ---- a mask that is not zero, with no bit past the columns, keeps a column
@@ -63,26 +64,27 @@ made-some (Keep mask) tables stack t s n e o =
     some-kept mask (getD stack 0 0) (omega arith) (ltb-true mask (2 ^ getD stack 0 0) e)
 made-some (Apply column transform) tables stack t s n e o = omega arith
 made-some (Group keys aggregate column) tables stack t s n e o = omega arith
+made-some (Noise column) tables stack t s n e o = omega arith
 
-left-some : (tables stack : List Table) (plan : List Step) → Some (widthsOf tables) → Some (widthsOf stack) → Placed (widthsOf tables) (widthsOf stack) plan
-    → Each (λ step. operationExists step ≡ true) plan → 1 ≤ top (stackLeft tables stack plan) .columns
-left-some tables [] [] t s p e = absurd (omega arith)
-left-some tables (table ∷ stack) [] t s p e = s .0
-left-some tables stack (step ∷ later) t s p e =
-    let made = madeColumns step (widthsOf tables) (widthsOf stack) in
-    let c = and-eq-true-iff (columnsExist step (widthsOf tables) (widthsOf stack)) (leb made 8) .0 (p .2) in
-    left-some tables (make step tables stack ∷ drop (takes step) stack) later t (
-      rw (made-columns step tables stack) (made-some step (widthsOf tables) (widthsOf stack) t s (p .1) (c .0) (e .0)),
+left-some : (supply : Supply) (stack : List Table) (plan : List Step) → Some (widthsOf (supply .tables)) → Some (widthsOf stack) → Placed (widthsOf (supply .tables)) (widthsOf stack) plan
+    → Each (λ step. operationExists step ≡ true) plan → 1 ≤ top (stackLeft supply stack plan) .columns
+left-some supply [] [] t s p e = absurd (omega arith)
+left-some supply (table ∷ stack) [] t s p e = s .0
+left-some supply stack (step ∷ later) t s p e =
+    let made = madeColumns step (widthsOf (supply .tables)) (widthsOf stack) in
+    let c = and-eq-true-iff (columnsExist step (widthsOf (supply .tables)) (widthsOf stack)) (leb made 8) .0 (p .2) in
+    left-some (supplyAfter step stack supply) (make step supply stack ∷ drop (takes step) stack) later t (
+      rw (made-columns step supply stack) (made-some step (widthsOf (supply .tables)) (widthsOf stack) t s (p .1) (c .0) (e .0)),
       rw (← widths-drop (takes step) stack) (each-drop (λ width. 1 ≤ width) (takes step) (widthsOf stack) s),
     )
-    (placed-after step later tables stack p) (e .1)
+    (placed-after step later supply stack p) (e .1)
 
 -- an accepted container's tables
 widths-some : (tables : List Table) → Each (λ table. (1 ≤ table .columns) × (table .columns ≤ 8)) tables → Some (widthsOf tables)
 widths-some [] e = tt
 widths-some (table ∷ tables) e = (e .0 .0, widths-some tables (e .1))
 
-pub top-some : (given : Given) → checkGiven given ≡ accepted → 1 ≤ top (stackLeft (prepared given) [] (planGiven given)) .columns
+pub top-some : (given : Given) → checkGiven given ≡ accepted → 1 ≤ top (stackLeft (supplyGiven given) [] (planGiven given)) .columns
 top-some given e =
-    left-some (prepared given) [] (planGiven given) (widths-some (prepared given) (tables-sound (given .container) e .2)) tt
+    left-some (supplyGiven given) [] (planGiven given) (widths-some (prepared given) (tables-sound (given .container) e .2)) tt
     (plan-placed (given .container) e) (operations-exist (given .container) e)

@@ -2,7 +2,7 @@
 use mathlib.Core.Path.{_≡_, ap, _∙_}
 use Rattle.plan.specs.Evaluate.{evaluate}
 use Rattle.plan.proofs.SecrecyProof.{secrecy}
-use Rattle.demands.specs.Given.{planGiven, prepared}
+use Rattle.demands.specs.Given.{planGiven, supplyGiven}
 use Rattle.demands.specs.Monitor.{evaluation, runOutcome}
 use Rattle.demands.specs.Secrecy.{SecrecyOfRuns}
 use Rattle.demands.proofs.Runs.{begun-run}
@@ -10,5 +10,5 @@ use Rattle.demands.proofs.Runs.{begun-run}
 pub secrecy-of-runs : SecrecyOfRuns
 unfolding evaluation runOutcome
 secrecy-of-runs a b in-a in-b alike lent long =
-    let same : evaluation a ≡ evaluation b = secrecy (planGiven a) (prepared a) (prepared b) (alike .tables) ∙ ap (λ p. evaluate p (prepared b)) (alike .plans) in
+    let same : evaluation a ≡ evaluation b = secrecy (planGiven a) (supplyGiven a) (supplyGiven b) (record { tables = alike .tables; draws = alike .draws }) ∙ ap (λ p. evaluate p (supplyGiven b)) (alike .plans) in
     rw (begun-run a lent (record { long = long; accepted-is = in-a }), begun-run b lent (record { long = long; accepted-is = in-b }), same, alike .plans)

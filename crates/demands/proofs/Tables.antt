@@ -12,19 +12,20 @@ use Rattle.accepted.specs.Accepted.{Placed}
 use Rattle.input.specs.Verdict.{accepted}
 use Rattle.accepted.proofs.AcceptedPlan.{plan-placed, steps-counted}
 use Rattle.accepted.proofs.AcceptedTables.{tables-sound}
+use Rattle.plan.specs.Supply.{Supply}
 use Rattle.plan.specs.Table.{flat, Each, Shaped, Table, noTable, grid, top}
 use Rattle.memory.specs.promises.Steps.{widthsOf}
 use Rattle.cells.proofs.RowReads.{flat-length}
 use Rattle.plan.specs.Evaluate.{release, Result, checkRelease, ending, evaluateFrom, evaluate}
 use Rattle.plan.specs.Sense.{Small}
-use Rattle.plan.specs.Steps.{takes, check, make, tooMany}
+use Rattle.plan.specs.Steps.{takes, check, make, tooMany, supplyAfter}
 use Rattle.plan.specs.Verdict.{Verdict, fine, refused}
 use Rattle.plan.specs.Widths.{columnsExist, madeColumns, placed}
 use Rattle.plan.specs.declared.Step.{Step}
 use Rattle.plan.proofs.SenseShape.{each-get, made-shaped, made-small}
 use Rattle.plan.specs.Trace.{flatLines}
 use Rattle.tally.proofs.Laws.{lines-length}
-use Rattle.demands.specs.Given.{Given, checkGiven, planGiven, prepared}
+use Rattle.demands.specs.Given.{Given, checkGiven, planGiven, prepared, supplyGiven}
 use Rattle.demands.specs.Monitor.{evaluation}
 use Rattle.demands.proofs.Widths.{each-drop, each-weaker, made-columns, placed-after}
 
@@ -48,14 +49,14 @@ tables-held given e = let t = tables-sound (given .container) e in all (prepared
     all (table ∷ tables) s m w = (record { shaped = s .0; small = m .0; few = w .0 .1 }, all tables (s .1) (m .1) (w .1))
 
 -- a step that the plan's check places
-made-held : (step : Step) (tables stack : List Table) → Each Held tables → Each Held stack → placed step (widthsOf tables) (widthsOf stack) ≡ true
-    → tooMany step (make step tables stack) ≡ fine → Held (make step tables stack)
-made-held step tables stack t s p m =
-    let b = and-eq-true-iff (columnsExist step (widthsOf tables) (widthsOf stack)) (leb (madeColumns step (widthsOf tables) (widthsOf stack)) 8) .0 p in
+made-held : (step : Step) (supply : Supply) (stack : List Table) → Each Held (supply .tables) → Each Held stack → placed step (widthsOf (supply .tables)) (widthsOf stack) ≡ true
+    → tooMany step (make step supply stack) ≡ fine → Held (make step supply stack)
+made-held step supply stack t s p m =
+    let b = and-eq-true-iff (columnsExist step (widthsOf (supply .tables)) (widthsOf stack)) (leb (madeColumns step (widthsOf (supply .tables)) (widthsOf stack)) 8) .0 p in
     record {
-      shaped = made-shaped step tables stack (b .0) (each-shaped tables t) (each-shaped stack s) .0;
-      small = made-small step tables stack (each-small tables t) (each-small stack s) m;
-      few = rw (made-columns step tables stack) (leb-true _ 8 (b .1));
+      shaped = made-shaped step supply stack (b .0) (each-shaped (supply .tables) t) (each-shaped stack s) .0;
+      small = made-small step supply stack (each-small (supply .tables) t) (each-small stack s) m;
+      few = rw (made-columns step supply stack) (leb-true _ 8 (b .1));
     }
 
 -- ---- along a plan
@@ -64,31 +65,30 @@ onward : (v : Verdict) (step : ℕ) (result : Result) (table : Table) → ending
 onward fine step result table e = (refl, e)
 onward (refused number row column) step result table e = absurd (let z : _≡_ {A = ℕ} 0 1 = cc in omega arith)
 
-module _ (tables : List Table) (t : Each Held tables) where
-  released-held : (step : ℕ) (stack : List Table) (plan : List Step) → Each Held stack → Placed (widthsOf tables) (widthsOf stack) plan
-      → (table : Table) → evaluateFrom tables step stack plan .outcome ≡ release table → Held table
-  unfolding evaluateFrom
-  released-held step stack [] s p table e =
-      let o : top stack ≡ table = cc (onward (checkRelease (top stack)) step _ table e .1) in
-      rw (← o) (each-get Held stack 0 noTable (record { shaped = tt; small = omega arith; few = omega arith }) s)
-  released-held step stack (next ∷ later) s p table e =
-      let o = onward (check next (map grid stack)) step _ table e in
-      let m = onward (tooMany next (make next tables stack)) step _ table (o .1) in
-      released-held (suc step) (make next tables stack ∷ drop (takes next) stack) later
-      (made-held next tables stack t s (p .2) (m .0), each-drop Held (takes next) stack s) (placed-after next later tables stack p) table (m .1)
+released-held : (supply : Supply) → Each Held (supply .tables) → (step : ℕ) (stack : List Table) (plan : List Step) → Each Held stack
+    → Placed (widthsOf (supply .tables)) (widthsOf stack) plan → (table : Table) → evaluateFrom supply step stack plan .outcome ≡ release table → Held table
+unfolding evaluateFrom
+released-held supply t step stack [] s p table e =
+    let o : top stack ≡ table = cc (onward (checkRelease (top stack)) step _ table e .1) in
+    rw (← o) (each-get Held stack 0 noTable (record { shaped = tt; small = omega arith; few = omega arith }) s)
+released-held supply t step stack (next ∷ later) s p table e =
+    let o = onward (check next (length (supply .draws)) (map grid stack)) step _ table e in
+    let m = onward (tooMany next (make next supply stack)) step _ table (o .1) in
+    released-held (supplyAfter next stack supply) t (suc step) (make next supply stack ∷ drop (takes next) stack) later
+    (made-held next supply stack t s (p .2) (m .0), each-drop Held (takes next) stack s) (placed-after next later supply stack p) table (m .1)
 
 trace-ending : (v : Verdict) (step n : ℕ) (result : Result) → length (result .trace) ≤ n → length (ending v step result .trace) ≤ n
 trace-ending fine step n result h = h
 trace-ending (refused number row column) step n result h = omega arith
 
 -- a line for each step at most
-trace-length : (tables : List Table) (step : ℕ) (stack : List Table) (plan : List Step) → length (evaluateFrom tables step stack plan .trace) ≤ length plan
+trace-length : (supply : Supply) (step : ℕ) (stack : List Table) (plan : List Step) → length (evaluateFrom supply step stack plan .trace) ≤ length plan
 unfolding evaluateFrom
-trace-length tables step stack [] = trace-ending (checkRelease (top stack)) step 0 _ (omega arith)
-trace-length tables step stack (next ∷ later) =
-    let more = trace-length tables (suc step) (make next tables stack ∷ drop (takes next) stack) later in
-    trace-ending (check next (map grid stack)) step (suc (length later)) _
-    (trace-ending (tooMany next (make next tables stack)) step (suc (length later)) _ (omega (arith, more)))
+trace-length supply step stack [] = trace-ending (checkRelease (top stack)) step 0 _ (omega arith)
+trace-length supply step stack (next ∷ later) =
+    let more = trace-length (supplyAfter next stack supply) (suc step) (make next supply stack ∷ drop (takes next) stack) later in
+    trace-ending (check next (length (supply .draws)) (map grid stack)) step (suc (length later)) _
+    (trace-ending (tooMany next (make next supply stack)) step (suc (length later)) _ (omega (arith, more)))
 
 -- ---- an accepted container
 
@@ -96,7 +96,7 @@ module _ (given : Given) (e : checkGiven given ≡ accepted) where
   module _ (table : Table) (o : evaluation given .outcome ≡ release table) where
     pub release-held : Held table
     unfolding evaluation evaluate
-    release-held = released-held (prepared given) (tables-held given e) 0 [] (planGiven given) tt (plan-placed (given .container) e) table o
+    release-held = released-held (supplyGiven given) (tables-held given e) 0 [] (planGiven given) tt (plan-placed (given .container) e) table o
 
     pub cells-most : length (flat (table .rows)) ≤ 2048
     cells-most =
@@ -104,4 +104,4 @@ module _ (given : Given) (e : checkGiven given ≡ accepted) where
 
   pub lines-most : length (flatLines (evaluation given .trace)) ≤ 256
   unfolding evaluation evaluate
-  lines-most = omega (arith, lines-length (evaluation given .trace), trace-length (prepared given) 0 [] (planGiven given), steps-counted (given .container) e)
+  lines-most = omega (arith, lines-length (evaluation given .trace), trace-length (supplyGiven given) 0 [] (planGiven given), steps-counted (given .container) e)

@@ -19,7 +19,7 @@ use Rattle.plan.specs.Table.{Cell, Each, Row, Table}
 use Rattle.plan.proofs.AboutEnding.{release-is-last}
 use Rattle.plan.proofs.SenseEnd.{released-clear}
 use Rattle.value.specs.Range.{inRange}
-use Rattle.demands.specs.Given.{Given, checkGiven, planGiven, prepared}
+use Rattle.demands.specs.Given.{Given, checkGiven, planGiven, supplyGiven}
 use Rattle.demands.specs.Lent.{Lent, enough}
 use Rattle.demands.specs.Monitor.{evaluation, runOutcome, answerOf, byInput, monitor}
 use Rattle.demands.proofs.Columns.{top-some}
@@ -83,10 +83,10 @@ module _ (given : Given) (e : checkGiven given ≡ accepted) (table : Table) (o 
   is-table =
       let held = release-held given e table o in
       record {
-        some = rw (release-is-last (planGiven given) (prepared given) table o .0) (top-some given e);
+        some = rw (release-is-last (planGiven given) (supplyGiven given) table o .0) (top-some given e);
         most = held .few;
         wide = rows-wide (table .columns) (table .rows) (held .shaped);
-        values = rows-in-range (table .rows) (released-clear (planGiven given) (prepared given) table o);
+        values = rows-in-range (table .rows) (released-clear (planGiven given) (supplyGiven given) table o);
       }
 
   pub text-most : length (tableText table) ≤ 35097

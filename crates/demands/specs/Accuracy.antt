@@ -67,11 +67,11 @@ NoRoomIsRefused = (given : Given) (lent : Lent) → Begun given lent → (table 
     × (monitor given lent .left .text ≡ lent .text)
 
 -- Why there is a refusal with a number at a step, row and column: a slice is too short, which gives 1 at zeros; or the evaluation refuses so,
--- with 31 to 36; or it releases a table whose text is longer than its slice, which gives 51.
+-- with 31 to 37; or it releases a table whose text is longer than its slice, which gives 51.
 pub data Refused (given : Given) (lent : Lent) : ℕ → ℕ → ℕ → ℕ → Type 0 where
   short : enough lent ≡ false → Refused given lent 1 0 0 0
   evaluated : {number step row column : ℕ} → Begun given lent → evaluation given .outcome ≡ refuse number step row column
-      → 31 ≤ number → number ≤ 36 → Refused given lent number step row column
+      → 31 ≤ number → number ≤ 37 → Refused given lent number step row column
   no-room : {table : Table} → Begun given lent → evaluation given .outcome ≡ release table → length (lent .text) < length (tableText table)
       → Refused given lent 51 (length (planGiven given)) 0 0
 

@@ -1,19 +1,22 @@
--- What a run is given to read: a container.
+-- What a run is given to read: a container, and the draws (#102).
 use Prim.Native.Nat.{ℕ}
 use mathlib.Core.List.{List}
+use lib.IntN.{ℤ}
 use Rattle.container.specs.Check.{checkInput}
 use Rattle.input.specs.Verdict.{InputVerdict}
 use Rattle.container.specs.Contents.{planOf, tablesOf}
+use Rattle.plan.specs.Supply.{Supply, supplied}
 use Rattle.plan.specs.Table.{Table}
 use Rattle.plan.specs.declared.Step.{Step}
 
 pub record Given : Type 0 where
   pub container : List ℕ
+  pub draws : List ℤ
 
-abbrev pub given : List ℕ → Given
-given container = record { container = container }
+abbrev pub given : List ℕ → List ℤ → Given
+given container draws = record { container = container; draws = draws }
 
--- the input checks
+-- the input checks; draws have none
 abbrev pub checkGiven : Given → InputVerdict
 checkGiven given = checkInput (given .container)
 
@@ -23,3 +26,7 @@ planGiven given = planOf (given .container)
 
 abbrev pub prepared : Given → List Table
 prepared given = tablesOf (given .container)
+
+-- these tables and the draws
+abbrev pub supplyGiven : Given → Supply
+supplyGiven given = supplied (prepared given) (given .draws)

@@ -13,12 +13,12 @@ use Rattle.plan.specs.Trace.{Line, flatLines}
 use Rattle.csv_text.specs.Text.{tableText}
 use Rattle.tally.specs.Zeros.{filled}
 use Rattle.demands.specs.Answers.{Told, released, refusedInput, refusedState}
-use Rattle.demands.specs.Given.{Given, checkGiven, planGiven, prepared}
+use Rattle.demands.specs.Given.{Given, checkGiven, planGiven, supplyGiven}
 use Rattle.demands.specs.Lent.{Lent, enough}
 
 -- the evaluation of the plan
 unfoldable pub evaluation : Given → Result
-evaluation given = evaluate (planGiven given) (prepared given)
+evaluation given = evaluate (planGiven given) (supplyGiven given)
 
 -- Change request #101: "It refuses with 51 when that slice is shorter than the text, after the run's own refusals; the slice is unchanged, all
 -- else and the step are as for 35, row and column 0."

@@ -14,11 +14,13 @@ use super::RunAnswer;
 use release::ReleaseAnswer;
 use walk::WalkAnswer;
 
-// Evaluates a container's plan over the lent work slices. A release writes its rows to the output's start and its text to the start of its
-// slice; a release and a refusal of the evaluation write the lines of the finished steps to the trace's start, and leave the first 8,192 elements of
-// both work slices zero. Where a slice is too short or the container is refused, nothing lent changes.
+// Evaluates a container's plan over the lent work slices, with draws for its NOISE steps. A release writes its rows to the output's start
+// and its text to the start of its slice; a release and a refusal of the evaluation write the lines of the finished steps to the trace's
+// start, and leave the first 8,192 elements of both work slices zero. Where a slice is too short or the container is refused, nothing lent
+// changes.
 pub fn run(
     container: &[u8],
+    draws: &[i64],
     values: &mut [i64],
     labels: &mut [u32],
     output: &mut [i64],
@@ -27,13 +29,13 @@ pub fn run(
 ) -> RunAnswer
     ensures { λ r. ⌜ ended (runSays r)
         (lent (now (values .exit)) (now (labels .exit)) (now (output .exit)) (now (trace .exit)) (now (text .exit)))
-        ≡ monitor (given (now (container .entry)))
+        ≡ monitor (given (now (container .entry)) (now (draws .entry)))
         (lent (now (values .entry)) (now (labels .entry)) (now (output .entry)) (now (trace .entry)) (now (text .entry))) ⌝ }
 {
     if output.len() < 2048 {
         return RunAnswer::TooShort;
     }
-    let answer = match walk::walk(container, values, labels, trace) {
+    let answer = match walk::walk(container, draws, values, labels, trace) {
         WalkAnswer::TooShort => {
             return RunAnswer::TooShort;
         }

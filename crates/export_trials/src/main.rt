@@ -13,7 +13,7 @@ fn main() {
 // One byte more than the limit is read, so that a longer container shows.
 fn trial(index: usize) {
     let mut bytes = [0u8; 65537];
-    let file = arguments::read_argument(index, &mut bytes);
+    let file = arguments::read_argument(index, true, &mut bytes);
     let length = file.length;
     if !file.opened {
         return;
@@ -73,8 +73,10 @@ fn run(container: &[u8], text: &mut [u8]) -> [u64; 4] {
     let mut output = [0i64; 2048];
     let mut trace = [0u32; 256];
     let mut answer = [0u64; 4];
+    let draws = [0i64; 0];
     cilunovay::cilunovay_run(
         container,
+        &draws,
         &mut values,
         &mut labels,
         &mut output,

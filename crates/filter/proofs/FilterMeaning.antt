@@ -22,6 +22,7 @@ use Rattle.memory.specs.promises.Stack.{Ready, stackIn, widthsTo, withTable, li
 use Rattle.memory.specs.promises.Steps.{verdict, fits, fitsIn, Done}
 use Rattle.plan.specs.Filter.{readBy, checkFilter, passes, passing, filtered}
 use Rattle.plan.specs.Steps.{check, make, tooMany}
+use Rattle.plan.specs.Supply.{Supply}
 use Rattle.plan.specs.Table.{Table, grid, flat}
 use Rattle.plan.specs.Verdict.{refused, notClear}
 use Rattle.plan.specs.Widths.{enoughTables, operandColumnExists, columnsExist, madeColumns}
@@ -66,38 +67,38 @@ module _ (column : ℕ) (comparison : Comparison) (operand : Operand) where
         width-is = w ∙ top-width here;
       }
 
-  module _ (tables : List Table) (w : Work) (stack : Stack) {top : LiveTable} {width : ℕ} (t : fitsIn step tables w stack ≡ true)
+  module _ (supply : Supply) (w : Work) (stack : Stack) {top : LiveTable} {width : ℕ} (t : fitsIn step supply w stack ≡ true)
       (f : FilterFits column operand (length (w .values)) (length (w .labels)) stack top width) where
-    filter-verdict : verdict step tables (stackIn w stack) ≡ notClear (readBy column operand) 31 0 (labelsIn (w .labels) top)
+    filter-verdict : verdict step supply (stackIn w stack) ≡ notClear (readBy column operand) 31 0 (labelsIn (w .labels) top)
     unfolding check checkFilter tooMany
-    filter-verdict = or-nothing _ ∙ ap (λ (s : List Table). check step (map grid s)) (stack-top w (f .here)) ∙ ap (notClear (readBy column operand) 31 0) (grid-is w (f .inside-is))
+    filter-verdict = or-nothing _ ∙ ap (λ (s : List Table). check step (length (supply .draws)) (map grid s)) (stack-top w (f .here)) ∙ ap (notClear (readBy column operand) 31 0) (grid-is w (f .inside-is))
 
-    made-is : make step tables (stackIn w stack) ≡ record { columns = top .columns; rows = passing (passes column comparison operand) (rowsIn w top) }
+    made-is : make step supply (stackIn w stack) ≡ record { columns = top .columns; rows = passing (passes column comparison operand) (rowsIn w top) }
     unfolding make filtered
-    made-is = ap (make step tables) (stack-top w (f .here))
+    made-is = ap (make step supply) (stack-top w (f .here))
 
     module _ (mask : ℕ) (bits : (c : ℕ) → c < 8 → inMask mask c ≡ readBy column operand c) where
       searched : (found : Place) → placeSays 31 0 found ≡ notClearAt 31 0 (w .labels) (top .at) (top .rows) (top .columns) mask
-          → placeSays 31 0 found ≡ says (verdict step tables (stackIn w stack))
+          → placeSays 31 0 found ≡ says (verdict step supply (stackIn w stack))
       searched found e =
           e ∙ rw (table-within (f .inside-is))
           (ap says (search-same (inMask mask) (readBy column operand) bits 31 (top .columns) (top .rows) 0 (drop (top .at) (w .labels)) (f .inside-is .few-columns) ∙ sym filter-verdict))
 
       pub filter-refused : (row c : ℕ) → placeSays 31 0 (place.At row c) ≡ notClearAt 31 0 (w .labels) (top .at) (top .rows) (top .columns) mask
-          → Done step tables w stack (record { answer = Refused (NotClear row c); stack = stack }) w
+          → Done step supply w stack (record { answer = Refused (NotClear row c); stack = stack }) w
       filter-refused row c e =
-          unchanged-done step tables w stack t (NotClear row c) (sym (says-is (searched (place.At row c) e)) ∙ ap (λ (n : ℕ). refused 31 n c) (zero-add row))
+          unchanged-done step supply w stack t (NotClear row c) (sym (says-is (searched (place.At row c) e)) ∙ ap (λ (n : ℕ). refused 31 n c) (zero-add row))
 
       pub filter-fits-still : placeSays 31 0 place.DoesNotFit ≡ notClearAt 31 0 (w .labels) (top .at) (top .rows) (top .columns) mask → ⊥
       filter-fits-still e = never-unfit (searched place.DoesNotFit e)
 
       pub filter-made : (count : ℕ) {after : Work} → placeSays 31 0 place.Nowhere ≡ notClearAt 31 0 (w .labels) (top .at) (top .rows) (top .columns) mask
           → Filtered top column comparison operand w count after
-          → Done step tables w stack (record { answer = Made; stack = withTable stack (top .slot) width count }) after
+          → Done step supply w stack (record { answer = Made; stack = withTable stack (top .slot) width count }) after
       filter-made count {after} e g =
           let pass = passes column comparison operand in
           let i = f .inside-is in
           let few : count ≤ 256 = omega (arith, g .counted, passing-fewer pass (rowsIn w top), rows-length (top .columns) (top .rows) (drop (top .at) (cellsIn w)), i .few-rows) in
-          rw (f .width-is) (written-done step tables w stack t (top .slot) (top .columns) count (passing pass (rowsIn w top)) after (f .is-ready)
+          rw (f .width-is) (written-done step supply w stack t (top .slot) (top .columns) count (passing pass (rowsIn w top)) after (f .is-ready)
           (sym (says-is (searched place.Nowhere e))) (f .here .low) (f .here .depth-is) made-is (i .few-columns) few (g .counted)
           (passing-wide (top .columns) pass (rowsIn w top) (rows-wide (top .columns) (top .rows) _ (rows-room w i))) (subst (λ (n : ℕ). CellsWritten w n (flat (passing pass (rowsIn w top))) after) (at-is (f .here)) (g .written)) (g .kept))

@@ -1,5 +1,4 @@
 // FILTER: the rows of the top table that pass a comparison, in order.
-ghost use mathlib.Core.List.{List};
 ghost use mathlib.Core.Path.{_≡_};
 ghost use mathlib.Core.Bool.{true};
 ghost use Prim.Native.Nat.{ℕ, _+_, _<_};
@@ -9,7 +8,7 @@ ghost use Rattle.plan.specs.Masks.{inMask};
 ghost use Rattle.plan.specs.declared.Comparison.{Comparison};
 ghost use Rattle.plan.specs.declared.Step.the-variants.{Filter};
 ghost use Rattle.plan.specs.Filter as spec;
-ghost use Rattle.plan.specs.Table.{Table};
+ghost use Rattle.plan.specs.Supply.{Supply};
 ghost use Rattle.plan.specs.Widths.{operandColumnExists};
 ghost use Rattle.cells.specs.promises.Work.{work};
 ghost use Rattle.memory.specs.promises.Stack.{Inside};
@@ -36,7 +35,7 @@ pub fn filter(
     comparison: Comparison,
     operand: Operand,
 ) -> Stepped
-    ensures { λ r. ⌜ ((tables : List Table) → Done (Filter column comparison operand) tables
+    ensures { λ r. ⌜ ((supply : Supply) → Done (Filter column comparison operand) supply
         (work (now (values .entry)) (now (labels .entry))) stack r (work (now (values .exit)) (now (labels .exit)))) ⌝ }
 {
     let step = Step::Filter {

@@ -15,6 +15,7 @@ use Rattle.plan.specs.Filter.{passing}
 use Rattle.plan.specs.Group.{sameKeys, anySame, groupsAfter, composedAfter, groupRow, grouped}
 use Rattle.plan.specs.Keep.{keptCells}
 use Rattle.plan.specs.Numbers.{aggregateCode}
+use Rattle.plan.specs.Supply.{Supply}
 use Rattle.plan.specs.Table.{Row, Table, cellAt, Each}
 use Rattle.plan.specs.declared.Aggregate.{Aggregate}
 use Rattle.plan.specs.declared.Step.the-variants.{Group}
@@ -25,9 +26,9 @@ use Rattle.memory.proofs.TopLabels.{top-formed}
 use Rattle.plan.proofs.SenseShape.{each-append, each-cond, each-map}
 
 -- live tables whose labels are well-formed ask no more than every step
-pub group-fits : (keys : ℕ) (aggregate : Aggregate) (column : ℕ) (tables : List Table) (w : Work) (stack : Stack) → fitsIn (Group keys aggregate column) tables w stack ≡ true
-    → Each Labelled (stackIn w stack) → groupFits keys aggregate column tables w stack ≡ true
-group-fits keys aggregate column tables w stack t e = rw (t, top-formed column w stack e)
+pub group-fits : (keys : ℕ) (aggregate : Aggregate) (column : ℕ) (supply : Supply) (w : Work) (stack : Stack) → fitsIn (Group keys aggregate column) supply w stack ≡ true
+    → Each Labelled (stackIn w stack) → groupFits keys aggregate column supply w stack ≡ true
+group-fits keys aggregate column supply w stack t e = rw (t, top-formed column w stack e)
 
 -- ---- the labels that GROUP makes
 

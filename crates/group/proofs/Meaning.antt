@@ -27,6 +27,7 @@ use Rattle.memory.specs.promises.Steps.{stepSays, verdict, fits, fitsIn, DoneWh
 use Rattle.plan.specs.Group.{checkGroup, grouped}
 use Rattle.plan.specs.Keep.{keptCount}
 use Rattle.plan.specs.Steps.{check, make, tooMany}
+use Rattle.plan.specs.Supply.{Supply}
 use Rattle.plan.specs.Table.{Row, Table, labelsOf, grid, top, Each}
 use Rattle.plan.specs.Verdict.{Verdict, fine, refused, orElse, refuseIf, firstRow, notClear}
 use Rattle.plan.specs.Widths.{enoughTables, columnsExist, madeColumns}
@@ -90,7 +91,7 @@ module _ (keys : ℕ) (aggregate : Aggregate) (column : ℕ) where
         narrow = rw w (leb-true _ 8 (placed .1));
       }
 
-  module _ (tables : List Table) (w : Work) (stack : Stack) {table : LiveTable} {width : ℕ} (t : fitsIn step tables w stack ≡ true)
+  module _ (supply : Supply) (w : Work) (stack : Stack) {table : LiveTable} {width : ℕ} (t : fitsIn step supply w stack ≡ true)
       (f : GroupFits keys column (length (w .values)) (length (w .labels)) stack table width) where
     abbrev g : Grouping
     g = groupingOf table keys aggregate column width
@@ -108,23 +109,23 @@ module _ (keys : ℕ) (aggregate : Aggregate) (column : ℕ) where
     }
 
     -- all that is asked, as the code tests it
-    fits-is : groupFits keys aggregate column tables w stack ≡ columnFormedAt (w .labels) (table .at) (table .rows) (table .columns) column
+    fits-is : groupFits keys aggregate column supply w stack ≡ columnFormedAt (w .labels) (table .at) (table .rows) (table .columns) column
     fits-is =
         rw (t, table-within (f .inside-is), lt-ltb column (table .columns) (f .below))
         (ap (λ (s : List Table). columnFormed column (grid (top s))) (stack-top w (f .here)) ∙ ap (columnFormed column) (grid-is w (f .inside-is)))
 
-    verdict-is : verdict step tables (stackIn w stack) ≡ checkGroup keys column (labelsIn (w .labels) table)
+    verdict-is : verdict step supply (stackIn w stack) ≡ checkGroup keys column (labelsIn (w .labels) table)
     unfolding check tooMany
-    verdict-is = or-nothing _ ∙ ap (λ (s : List Table). check step (map grid s)) (stack-top w (f .here)) ∙ ap (checkGroup keys column) (grid-is w (f .inside-is))
+    verdict-is = or-nothing _ ∙ ap (λ (s : List Table). check step (length (supply .draws)) (map grid s)) (stack-top w (f .here)) ∙ ap (checkGroup keys column) (grid-is w (f .inside-is))
 
-    made-is : make step tables (stackIn w stack) ≡ record { columns = width; rows = groupRows (groupingOf table keys aggregate column width) (cellsIn w) }
+    made-is : make step supply (stackIn w stack) ≡ record { columns = width; rows = groupRows (groupingOf table keys aggregate column width) (cellsIn w) }
     unfolding make grouped
-    made-is = rw (f .width-is) (ap (make step tables) (stack-top w (f .here)))
+    made-is = rw (f .width-is) (ap (make step supply) (stack-top w (f .here)))
 
     -- the labels refuse it, or are none
     pub refused-group : (answer : StepAnswer) → OneOf (1 ∷ 2 ∷ []) (tagOf the-type answer) → stepSays answer ≡ groupSays (w .labels) table keys column
-        → DoneWhere (groupFits keys aggregate column tables w stack) step tables w stack (record { answer = answer; stack = stack }) w
-    refused-group answer k e = answered-done step tables w stack answer k verdict-is (e ∙ ap (λ (b : Bool). cond b (says (checkGroup keys column (labelsIn (w .labels) table))) unfit) (sym fits-is))
+        → DoneWhere (groupFits keys aggregate column supply w stack) step supply w stack (record { answer = answer; stack = stack }) w
+    refused-group answer k e = answered-done step supply w stack answer k verdict-is (e ∙ ap (λ (b : Bool). cond b (says (checkGroup keys column (labelsIn (w .labels) table))) unfit) (sym fits-is))
 
     module _ (e : says fine ≡ groupSays (w .labels) table keys column) where
       pub allowed : Each (Allowed column) (groupedRows (groupingOf table keys aggregate column width) (cellsIn w))
@@ -136,12 +137,12 @@ module _ (keys : ℕ) (aggregate : Aggregate) (column : ℕ) where
           allowed-rows column 0 (groupedRows g (cellsIn w)) (rw same (formed-table (w .labels) table column (p .0) .formed)) (rw same none)
 
       pub made-group : {after : Work} {count : ℕ} → Replaced (groupingOf table keys aggregate column width) w count after
-          → DoneWhere (groupFits keys aggregate column tables w stack) step tables w stack (record { answer = Made; stack = withTable stack (table .slot) width count }) after
+          → DoneWhere (groupFits keys aggregate column supply w stack) step supply w stack (record { answer = Made; stack = withTable stack (table .slot) width count }) after
       made-group {after} {count} r =
           let p = fine-parts _ e in
-          rows-done step tables w stack (fits-is ∙ p .0) (table .slot) width count (groupRows g (cellsIn w)) after (f .is-ready)
+          rows-done step supply w stack (fits-is ∙ p .0) (table .slot) width count (groupRows g (cellsIn w)) after (f .is-ready)
           (verdict-is ∙ p .1) (f .here .low) (f .here .depth-is) made-is (f .narrow) (r .few) (r .counted) (at-is (f .here)) (r .rows)
 
 -- arguments that do not fit
-pub misfit-first : (keys : ℕ) (aggregate : Aggregate) (column : ℕ) (tables : List Table) (w : Work) (stack : Stack) → fitsIn (Group keys aggregate column) tables w stack ≡ false → groupFits keys aggregate column tables w stack ≡ false
-misfit-first keys aggregate column tables w stack e = rw e
+pub misfit-first : (keys : ℕ) (aggregate : Aggregate) (column : ℕ) (supply : Supply) (w : Work) (stack : Stack) → fitsIn (Group keys aggregate column) supply w stack ≡ false → groupFits keys aggregate column supply w stack ≡ false
+misfit-first keys aggregate column supply w stack e = rw e

@@ -1,9 +1,8 @@
 // "Groups in order of first appearance: keys, then the aggregate".
 ghost use mathlib.Core.Path.{_≡_};
-ghost use mathlib.Core.List.{List};
 ghost use Rattle.cells.specs.promises.Work.{work};
 ghost use Rattle.memory.specs.promises.Steps.{DoneWhere};
-ghost use Rattle.plan.specs.Table.{Table};
+ghost use Rattle.plan.specs.Supply.{Supply};
 ghost use Rattle.plan.specs.declared.Step.the-variants.{Group};
 ghost use Rattle.group.specs.promises.Fits.{groupFits};
 ghost use Rattle.group.specs.promises.Members.{groupingOf};
@@ -27,9 +26,9 @@ pub fn group(
     aggregate: Aggregate,
     column: usize,
 ) -> Stepped
-    ensures { λ r. ⌜ ((tables : List Table) → DoneWhere
-        (groupFits keys aggregate column tables (work (now (values .entry)) (now (labels .entry))) stack)
-        (Group keys aggregate column) tables (work (now (values .entry)) (now (labels .entry))) stack r
+    ensures { λ r. ⌜ ((supply : Supply) → DoneWhere
+        (groupFits keys aggregate column supply (work (now (values .entry)) (now (labels .entry))) stack)
+        (Group keys aggregate column) supply (work (now (values .entry)) (now (labels .entry))) stack r
         (work (now (values .exit)) (now (labels .exit)))) ⌝ }
 {
     let step = Step::Group {

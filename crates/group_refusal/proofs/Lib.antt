@@ -1,3 +1,2 @@
--- What the proofs share. `Laws` is for the proofs of other crates to cite.
-mod Columns
+-- `Laws` is for the proofs of other crates to cite.
 pub mod Laws

@@ -24,6 +24,7 @@ use Rattle.memory.specs.declared.Stepped.{Stepped}
 use Rattle.memory.specs.promises.Stack.{lastSlot, withTable, RowsAt}
 use Rattle.memory.specs.promises.Steps.{fitsIn, leavesRows, Done}
 use Rattle.plan.specs.Join.{checkJoin}
+use Rattle.plan.specs.Supply.{Supply}
 use Rattle.plan.specs.Table.{Row, Table, flat, Each}
 use Rattle.plan.specs.Verdict.{Verdict, fine, refused}
 use Rattle.plan.specs.declared.Step.the-variants.{Join}
@@ -86,7 +87,7 @@ module _ (stack : Stack) (index : ℕ) {left right : Side} {w : Work} (sides : S
 
 -- ---- the three ends of a join that fits
 
-module _ (left right : ℕ) (tables : List Table) (w : Work) (stack : Stack) {lower upper : LiveTable} {columns : ℕ} (t : fitsIn (Join left right) tables w stack ≡ true)
+module _ (left right : ℕ) (supply : Supply) (w : Work) (stack : Stack) {lower upper : LiveTable} {columns : ℕ} (t : fitsIn (Join left right) supply w stack ≡ true)
     (f : JoinFits left right (length (w .values)) (length (w .labels)) stack lower upper columns) where
   abbrev keys : Verdict
   keys = checkJoin left right (sideLabels (w .labels) (sideOf lower left)) (sideLabels (w .labels) (sideOf upper right))
@@ -94,15 +95,15 @@ module _ (left right : ℕ) (tables : List Table) (w : Work) (stack : Stack) {lo
   abbrev rows : List Row
   rows = allRows (cellsIn w) (sideOf lower left) (sideOf upper right)
 
-  pub key-done : {row column : ℕ} → placeSays 31 0 (At row column) ≡ says keys → Done (Join left right) tables w stack (record { answer = Refused (NotClear row column); stack = stack }) w
-  key-done {row} {column} e = unchanged-done (Join left right) tables w stack t (NotClear row column) (join-verdict left right tables w stack f ∙ rw (← says-is e, zero-add row))
+  pub key-done : {row column : ℕ} → placeSays 31 0 (At row column) ≡ says keys → Done (Join left right) supply w stack (record { answer = Refused (NotClear row column); stack = stack }) w
+  key-done {row} {column} e = unchanged-done (Join left right) supply w stack t (NotClear row column) (join-verdict left right supply w stack f ∙ rw (← says-is e, zero-add row))
 
   over-done : {u : Work} → keys ≡ fine → 256 < length rows → take lastSlot (cellsIn u) ≡ take lastSlot (cellsIn w) → Kept w u
-      → Done (Join left right) tables w stack (record { answer = Refused TooMany; stack = stack }) u
+      → Done (Join left right) supply w stack (record { answer = Refused TooMany; stack = stack }) u
   over-done {u} e h below k =
       let v = f .sides .values-room in
       let l = f .sides .labels-room in
-      refused-done (Join left right) tables w stack t TooMany u (join-verdict left right tables w stack f ∙ rw (e, lt-ltb 256 (length rows) h)) k
+      refused-done (Join left right) supply w stack t TooMany u (join-verdict left right supply w stack f ∙ rw (e, lt-ltb 256 (length rows) h)) k
       (sym (values-front u lastSlot (omega (arith, k .as-many-labels))) ∙ ap (map (λ cell. cell .value)) below ∙ values-front w lastSlot (omega arith))
       (sym (labels-front u lastSlot (omega (arith, k .as-many-values))) ∙ ap (map (λ cell. cell .label)) below ∙ labels-front w lastSlot (omega arith))
       (λ number row column r n. leaves r n)
@@ -112,15 +113,15 @@ module _ (left right : ℕ) (tables : List Table) (w : Work) (stack : Stack) {lo
 
   made-done : {u : Work} → keys ≡ fine → length rows ≤ 256
       → RowsAt (lower .at) (width (sideOf lower left) (sideOf upper right)) (length rows) rows w u
-      → Done (Join left right) tables w stack (record { answer = Made; stack = withTable stack (lower .slot) (width (sideOf lower left) (sideOf upper right)) (length rows) }) u
+      → Done (Join left right) supply w stack (record { answer = Made; stack = withTable stack (lower .slot) (width (sideOf lower left) (sideOf upper right)) (length rows) }) u
   made-done {u} e h stand =
-      rows-done (Join left right) tables w stack t (lower .slot) (width (sideOf lower left) (sideOf upper right)) (length rows) rows u (f .ready-is)
-      (join-verdict left right tables w stack f ∙ rw (e, le-ltb 256 (length rows) h)) (f .below .low) (f .below .depth-is) (made-is left right tables w stack f) (f .sides .few) h refl (at-is (f .below)) stand
+      rows-done (Join left right) supply w stack t (lower .slot) (width (sideOf lower left) (sideOf upper right)) (length rows) rows u (f .ready-is)
+      (join-verdict left right supply w stack f ∙ rw (e, le-ltb 256 (length rows) h)) (f .below .low) (f .below .depth-is) (made-is left right supply w stack f) (f .sides .few) h refl (at-is (f .below)) stand
 
   pub rows-made-done : {done : Stepped} {u : Work} → placeSays 31 0 Nowhere ≡ says keys → Finished stack (lower .slot) (sideOf lower left) (sideOf upper right) w done u
-      → Done (Join left right) tables w stack done u
+      → Done (Join left right) supply w stack done u
   rows-made-done {done} {u} e g = go (ltb 256 (length rows)) refl
     where
-      go : (b : Bool) → ltb 256 (length rows) ≡ b → Done (Join left right) tables w stack done u
+      go : (b : Bool) → ltb 256 (length rows) ≡ b → Done (Join left right) supply w stack done u
       go true b = let r = g .refused (ltb-true 256 (length rows) b) in rw (r .0) (over-done (sym (says-is e)) (ltb-true 256 (length rows) b) (r .1) (g .kept))
       go false b = let m = g .made (ltb-false 256 (length rows) b) in rw (m .0) (made-done (sym (says-is e)) (ltb-false 256 (length rows) b) (m .1))

@@ -17,6 +17,7 @@ use Rattle.memory.specs.promises.Stack.{Ready, stackIn, widthsTo, liveTable, In
 use Rattle.memory.specs.promises.Steps.{verdict, fits}
 use Rattle.plan.specs.Join.{checkJoin, joined}
 use Rattle.plan.specs.Steps.{check, make, tooMany}
+use Rattle.plan.specs.Supply.{Supply}
 use Rattle.plan.specs.Table.{Table, grid}
 use Rattle.plan.specs.Verdict.{orElse, refuseIf}
 use Rattle.plan.specs.Widths.{enoughTables, columnsExist, madeColumns}
@@ -82,21 +83,21 @@ in-labels s = record {
 
 -- ---- what the meaning makes
 
-module _ (left right : ℕ) (tables : List Table) (w : Work) (stack : Stack) {lower upper : LiveTable} {columns : ℕ} (f : JoinFits left right (length (w .values)) (length (w .labels)) stack lower upper columns) where
+module _ (left right : ℕ) (supply : Supply) (w : Work) (stack : Stack) {lower upper : LiveTable} {columns : ℕ} (f : JoinFits left right (length (w .values)) (length (w .labels)) stack lower upper columns) where
   abbrev l : Side
   l = sideOf lower left
 
   abbrev r : Side
   r = sideOf upper right
 
-  pub made-is : make (Join left right) tables (stackIn w stack) ≡ record { columns = width l r; rows = allRows (cellsIn w) l r }
+  pub made-is : make (Join left right) supply (stackIn w stack) ≡ record { columns = width l r; rows = allRows (cellsIn w) l r }
   unfolding make joined
-  made-is = ap (make (Join left right) tables) (stack-two w (f .above) (f .below))
+  made-is = ap (make (Join left right) supply) (stack-two w (f .above) (f .below))
 
-  pub join-verdict : verdict (Join left right) tables (stackIn w stack)
+  pub join-verdict : verdict (Join left right) supply (stackIn w stack)
       ≡ orElse (checkJoin left right (sideLabels (w .labels) l) (sideLabels (w .labels) r)) (refuseIf (ltb 256 (length (allRows (cellsIn w) l r))) 34 256 0)
   unfolding check tooMany
   join-verdict =
       ap₂ orElse
-      (ap (λ (ts : List Table). check (Join left right) (map grid ts)) (stack-two w (f .above) (f .below)) ∙ ap₂ (checkJoin left right) (grid-is w (f .in-lower)) (grid-is w (f .in-upper)))
+      (ap (λ (ts : List Table). check (Join left right) (length (supply .draws)) (map grid ts)) (stack-two w (f .above) (f .below)) ∙ ap₂ (checkJoin left right) (grid-is w (f .in-lower)) (grid-is w (f .in-upper)))
       (ap (tooMany (Join left right)) made-is)

@@ -1,10 +1,9 @@
 // The step: its arguments, the keys' labels, and then the rows.
-ghost use mathlib.Core.List.{List};
 ghost use mathlib.Core.Path.{_≡_};
 ghost use lib.ListN.{length};
 ghost use Rattle.cells.specs.promises.Work.{work};
 ghost use Rattle.memory.specs.promises.Steps.{Done};
-ghost use Rattle.plan.specs.Table.{Table};
+ghost use Rattle.plan.specs.Supply.{Supply};
 ghost use Rattle.plan.specs.declared.Step.the-variants.{Join};
 ghost use Rattle.join.specs.promises.Ends as ends;
 ghost use Rattle.pairs.specs.promises.Pairs as spec;
@@ -29,7 +28,7 @@ pub fn join(
     left: usize,
     right: usize,
 ) -> Stepped
-    ensures { λ r. ⌜ ((tables : List Table) → Done (Join left right) tables (work (now (values .entry)) (now (labels .entry)))
+    ensures { λ r. ⌜ ((supply : Supply) → Done (Join left right) supply (work (now (values .entry)) (now (labels .entry)))
         stack r (work (now (values .exit)) (now (labels .exit)))) ⌝ }
 {
     let step = Step::Join { left, right };

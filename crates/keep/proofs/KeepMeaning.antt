@@ -15,6 +15,7 @@ use Rattle.memory.specs.promises.Stack.{Ready, stackIn, widthsTo, withTable, li
 use Rattle.memory.specs.promises.Steps.{fits, fitsIn, Done}
 use Rattle.plan.specs.Keep.{keptCount, keptRow, kept}
 use Rattle.plan.specs.Steps.{check, make, tooMany}
+use Rattle.plan.specs.Supply.{Supply}
 use Rattle.plan.specs.Table.{Table, flat}
 use Rattle.plan.specs.Widths.{enoughTables, madeColumns}
 use Rattle.plan.specs.declared.Step.the-variants.{Keep}
@@ -39,16 +40,16 @@ keep-parts mask tables values labels stack top width e t w =
     let here = stands stack 0 top (parts .0 .depth) (leb-true 1 (stack .depth) (parts .1)) e in
     record { is-ready = parts .0; here = here; inside-is = inside here (parts .0); width-is = w ∙ ap (keptCount mask) (top-width here) }
 
-pub keep-made : (mask : ℕ) (tables : List Table) (w : Work) (stack : Stack) {top : LiveTable} {width : ℕ} → fitsIn (Keep mask) tables w stack ≡ true
+pub keep-made : (mask : ℕ) (supply : Supply) (w : Work) (stack : Stack) {top : LiveTable} {width : ℕ} → fitsIn (Keep mask) supply w stack ≡ true
     → KeepFits mask (length (w .values)) (length (w .labels)) stack top width → {after : Work} → RowsKept mask top w after
-    → Done (Keep mask) tables w stack (record { answer = Made; stack = withTable stack (top .slot) width (top .rows) }) after
+    → Done (Keep mask) supply w stack (record { answer = Made; stack = withTable stack (top .slot) width (top .rows) }) after
 unfolding make kept check tooMany
-keep-made mask tables w stack {top} {width} t f {after} k =
+keep-made mask supply w stack {top} {width} t f {after} k =
     let columns = top .columns in
-    let made : make (Keep mask) tables (stackIn w stack) ≡ record { columns = keptCount mask columns; rows = map (keptRow mask columns) (rowsIn w top) }
-    = ap (make (Keep mask) tables) (stack-top w (f .here)) in
+    let made : make (Keep mask) supply (stackIn w stack) ≡ record { columns = keptCount mask columns; rows = map (keptRow mask columns) (rowsIn w top) }
+    = ap (make (Keep mask) supply) (stack-top w (f .here)) in
     let counted : top .rows ≡ length (map (keptRow mask columns) (rowsIn w top))
     = sym (length-map (rowsIn w top) (keptRow mask columns) ∙ rows-length columns (top .rows) (drop (top .at) _)) in
-    rw (f .width-is) (written-done (Keep mask) tables w stack t (top .slot) (keptCount mask columns) (top .rows) (map (keptRow mask columns) (rowsIn w top)) after (f .is-ready)
+    rw (f .width-is) (written-done (Keep mask) supply w stack t (top .slot) (keptCount mask columns) (top .rows) (map (keptRow mask columns) (rowsIn w top)) after (f .is-ready)
     refl (f .here .low) (f .here .depth-is) made (omega (arith, count-below mask columns, f .inside-is .few-columns)) (f .inside-is .few-rows)
     counted (kept-wide mask columns (rowsIn w top)) (subst (λ (n : ℕ). CellsWritten w n (flat (map (keptRow mask columns) (rowsIn w top))) after) (at-is (f .here)) (k .written)) (k .kept))

@@ -1,9 +1,8 @@
 // KEEP: the columns of a mask, in order.
-ghost use mathlib.Core.List.{List};
 ghost use Prim.Native.Nat.{_+_, _≤_};
 ghost use lib.ListN.{length};
 ghost use Rattle.plan.specs.declared.Step.the-variants.{Keep};
-ghost use Rattle.plan.specs.Table.{Table};
+ghost use Rattle.plan.specs.Supply.{Supply};
 ghost use Rattle.cells.specs.promises.Work.{work};
 ghost use Rattle.memory.specs.promises.Stack.{Inside};
 ghost use Rattle.memory.specs.promises.Steps.{Done};
@@ -17,7 +16,7 @@ use widths::Width;
 
 // Keeps the columns of the top table that are in the mask.
 pub fn keep(values: &mut [i64], labels: &mut [u32], stack: Stack, mask: u32) -> Stepped
-    ensures { λ r. ⌜ ((tables : List Table) → Done (Keep mask) tables (work (now (values .entry)) (now (labels .entry))) stack r
+    ensures { λ r. ⌜ ((supply : Supply) → Done (Keep mask) supply (work (now (values .entry)) (now (labels .entry))) stack r
         (work (now (values .exit)) (now (labels .exit)))) ⌝ }
 {
     let step = Step::Keep { mask };

@@ -11,9 +11,9 @@ use Rattle.plan.specs.Numbers.{kindOf}
 use Rattle.plan.specs.Steps.{takes}
 use Rattle.plan.specs.Widths.{enoughTables}
 use Rattle.plan.specs.declared.Step.{Step}
-use Rattle.plan.specs.declared.Step.the-variants.{Scan, Union, Join, Filter, Keep, Apply, Group}
+use Rattle.plan.specs.declared.Step.the-variants.{Scan, Union, Join, Filter, Keep, Apply, Group, Noise}
 
-pub kind-within : (step : Step) → (1 ≤ kindOf step) × (kindOf step - 1 < 7)
+pub kind-within : (step : Step) → (1 ≤ kindOf step) × (kindOf step - 1 < 8)
 kind-within (Scan table) = (lit≤ tt, lit< tt)
 kind-within Union = (lit≤ tt, lit< tt)
 kind-within (Join left right) = (lit≤ tt, lit< tt)
@@ -21,9 +21,10 @@ kind-within (Filter column comparison operand) = (lit≤ tt, lit< tt)
 kind-within (Keep mask) = (lit≤ tt, lit< tt)
 kind-within (Apply column transform) = (lit≤ tt, lit< tt)
 kind-within (Group keys aggregate column) = (lit≤ tt, lit< tt)
+kind-within (Noise column) = (lit≤ tt, lit< tt)
 
 -- how many tables a step of each kind takes
-pub taken-by-kind : (step : Step) → getD (0 ∷ 2 ∷ 2 ∷ 1 ∷ 1 ∷ 1 ∷ 1 ∷ []) (kindOf step - 1) 0 ≡ takes step
+pub taken-by-kind : (step : Step) → getD (0 ∷ 2 ∷ 2 ∷ 1 ∷ 1 ∷ 1 ∷ 1 ∷ 1 ∷ []) (kindOf step - 1) 0 ≡ takes step
 taken-by-kind (Scan table) = refl
 taken-by-kind Union = refl
 taken-by-kind (Join left right) = refl
@@ -31,6 +32,7 @@ taken-by-kind (Filter column comparison operand) = refl
 taken-by-kind (Keep mask) = refl
 taken-by-kind (Apply column transform) = refl
 taken-by-kind (Group keys aggregate column) = refl
+taken-by-kind (Noise column) = refl
 
 pub enough-is : (step : Step) (depth : ℕ) → enoughTables step depth ≡ cond (eqb (takes step) 0) (ltb depth 3) (leb (takes step) depth)
 unfolding enoughTables
@@ -46,3 +48,4 @@ enough-room (Filter column comparison operand) depth h e = omega (arith, leb-tru
 enough-room (Keep mask) depth h e = omega (arith, leb-true 1 depth e)
 enough-room (Apply column transform) depth h e = omega (arith, leb-true 1 depth e)
 enough-room (Group keys aggregate column) depth h e = omega (arith, leb-true 1 depth e)
+enough-room (Noise column) depth h e = omega (arith, leb-true 1 depth e)

@@ -26,5 +26,6 @@ pub fn kind_of(step: Step) -> u32
             aggregate: _,
             column: _,
         } => 7,
+        Step::Noise { column: _ } => 8,
     }
 }

@@ -5,12 +5,12 @@ ghost use Rattle.plan.specs.Widths as spec;
 use super::numbers::kind_of;
 use plan::Step;
 
-// How many tables a step takes off the stack, by its kind, 1 to 7.
+// How many tables a step takes off the stack, by its kind, 1 to 8.
 pub fn takes(step: Step) -> usize
     ensures { λ r. ⌜ r ≡ steps.takes step ⌝ }
 {
     let kind = kind_of(step) as usize;
-    let taken = [0, 2, 2, 1, 1, 1, 1];
+    let taken = [0, 2, 2, 1, 1, 1, 1, 1];
     taken[kind - 1]
 }
 

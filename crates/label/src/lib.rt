@@ -2,6 +2,7 @@
 // A crate that takes an answer apart depends on `label_words` too, which declares its type.
 pub use label_composition::compose;
 pub use label_discharge::discharge_aggregate;
+pub use label_discharge::discharge_noise;
 pub use label_discharge::discharge_transform;
 pub use label_words::Highest;
 pub use label_words::LabelAnswer;

@@ -3,8 +3,8 @@ use Prim.Native.Nat.{ℕ}
 use mathlib.Core.Path.{_≡_, refl}
 use mathlib.Core.Bool.{Bool, true, false, cond, not, _&&_, _||_}
 use Rattle.label_words.specs.Answers.{label, forbidden}
-use Rattle.label_words.specs.Word.{hasH, hasT, hasA}
-use Rattle.label_discharge.specs.Discharge.{allowsTransform, dischargesA, withoutT, withoutA, forbidsT, forbidsA, afterT, afterA, transformed, aggregated}
+use Rattle.label_words.specs.Word.{hasH, hasT, hasA, hasN}
+use Rattle.label_discharge.specs.Discharge.{allowsTransform, dischargesA, allowsNoise, withoutT, withoutA, withoutN, forbidsT, forbidsA, forbidsN, afterT, afterA, afterN, transformed, aggregated, noised}
 
 above : (higher stage allowed : Bool) (left word : ℕ)
     → cond higher forbidden (label (cond (stage && allowed) left word)) ≡ cond higher forbidden (label (cond (not higher && stage && allowed) left word))
@@ -20,3 +20,7 @@ module _ (word operation measure : ℕ) where
       ≡ aggregated word operation measure
   unfolding aggregated forbidsA afterA
   at-A = above (hasH word || hasT word) (hasA word) (dischargesA word operation measure) (withoutA word) word
+
+pub at-N : (word : ℕ) → cond (hasH word || hasT word || hasA word) forbidden (label (cond (hasN word && allowsNoise word) (withoutN word) word)) ≡ noised word
+unfolding noised forbidsN afterN
+at-N word = above (hasH word || hasT word || hasA word) (hasN word) (allowsNoise word) (withoutN word) word

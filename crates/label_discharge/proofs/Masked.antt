@@ -6,7 +6,7 @@ use lib.Bits.{bitAnd, and-shr, and-mod, and-mask, and-le-l, and-zero-r}
 use Rattle.label_words.specs.Word.{fieldAt}
 use Rattle.label_words.proofs.Packed.{repacked, same-packed}
 use Rattle.label_words.proofs.Words.{field-lt}
-use Rattle.label_discharge.specs.Discharge.{withoutT, withoutA}
+use Rattle.label_discharge.specs.Discharge.{withoutT, withoutA, withoutN}
 
 module _ (word mask : ℕ) where
   -- a field of the masked word
@@ -38,3 +38,10 @@ module _ (word : ℕ) (fits : word < 2 ^ 32) where
       let m : ℕ = 0b1101_1111_1_00_00000_000_111_0000000000 in
       sym (repacked (bitAnd word m) (small m) (gone word m 21 2 refl) (gone word m 13 3 refl))
       ∙ same-packed (field-of word m 28 4) (kept word m 24 4 refl) (kept word m 23 1 refl) (gone word m 16 5 refl) (kept word m 10 3 refl) (gone word m 0 10 refl)
+
+  pub without-N : bitAnd word 0b1110_1111_0_00_11111_000_111_1111111111 ≡ withoutN word
+  unfolding withoutN fieldAt
+  without-N =
+      let m : ℕ = 0b1110_1111_0_00_11111_000_111_1111111111 in
+      sym (repacked (bitAnd word m) (small m) (gone word m 21 2 refl) (gone word m 13 3 refl))
+      ∙ same-packed (field-of word m 28 4) (kept word m 24 4 refl) (gone word m 23 1 refl) (kept word m 16 5 refl) (kept word m 10 3 refl) (kept word m 0 10 refl)

@@ -1,11 +1,11 @@
--- "Discharge: an operation has level T or A." The paper's Figure 2.
+-- "Discharge: an operation has level T or A", and #102: NOISE has level N. The paper's Figure 2.
 use Prim.Native.Nat.{ℕ, _+_}
 use mathlib.Core.Bool.{Bool, cond, not, _&&_, _||_}
 use lib.Bits.{bitAnd}
 use lib.Dec.{eqb, leb, ltb}
 use Rattle.label_words.specs.Answers.{LabelVerdict, label, forbidden, refused}
 use Rattle.label_words.specs.WellFormed.{wellFormed}
-use Rattle.label_words.specs.Word.{bitAt, hasH, hasT, hasA, stagesOf, transformsOf, digitsOf, aggregatesOf, minimumOf, noiseOf, packed}
+use Rattle.label_words.specs.Word.{bitAt, hasH, hasT, hasA, hasN, stagesOf, transformsOf, digitsOf, aggregatesOf, minimumOf, noiseOf, packed}
 
 -- The operations of level T: 0 add, 1 sub, 2 cut, 3 band. `digits` is how many a cut takes off; the others have none.
 abbrev pub isCut : ℕ → Bool
@@ -35,6 +35,10 @@ enoughRows word rows = leb (minimumOf word) rows
 abbrev pub dischargesA : ℕ → ℕ → ℕ → Bool
 dischargesA word operation rows = allowsAggregate word operation && enoughRows word rows
 
+-- Level N has one operation, noise: "Bit 23: noise allowed at N."
+unfoldable pub allowsNoise : ℕ → Bool
+allowsNoise word = bitAt word 23
+
 -- "that stage and its fields go to zero"
 unfoldable pub withoutT : ℕ → ℕ
 withoutT word = packed (bitAnd (stagesOf word) 0b1011) 0 (noiseOf word) (aggregatesOf word) 0 (minimumOf word)
@@ -42,12 +46,19 @@ withoutT word = packed (bitAnd (stagesOf word) 0b1011) 0 (noiseOf word) (aggrega
 unfoldable pub withoutA : ℕ → ℕ
 withoutA word = packed (bitAnd (stagesOf word) 0b1101) (transformsOf word) (noiseOf word) 0 (digitsOf word) 0
 
--- "If the highest stage present is above that level, it is forbidden": the paper has no rule there. H stands above T, and both above A.
+unfoldable pub withoutN : ℕ → ℕ
+withoutN word = packed (bitAnd (stagesOf word) 0b1110) (transformsOf word) 0 (aggregatesOf word) (digitsOf word) (minimumOf word)
+
+-- "If the highest stage present is above that level, it is forbidden": the paper has no rule there. H stands above T, both above A, and all
+-- three above N.
 unfoldable pub forbidsT : ℕ → Bool
 forbidsT word = hasH word
 
 unfoldable pub forbidsA : ℕ → Bool
 forbidsA word = hasH word || hasT word
+
+unfoldable pub forbidsN : ℕ → Bool
+forbidsN word = hasH word || hasT word || hasA word
 
 -- "If the highest stage is of that level and allows the operation .., that stage and its fields go to zero": DLOWER.
 -- "Otherwise the label stays": DPRESERVE, and EMPTY for a clear label.
@@ -57,12 +68,18 @@ afterT word operation digits = cond (not (forbidsT word) && hasT word && allowsT
 unfoldable pub afterA : ℕ → ℕ → ℕ → ℕ
 afterA word operation rows = cond (not (forbidsA word) && hasA word && dischargesA word operation rows) (withoutA word) word
 
--- a label discharged by an operation of level T, or of level A over a group of so many rows
+unfoldable pub afterN : ℕ → ℕ
+afterN word = cond (not (forbidsN word) && hasN word && allowsNoise word) (withoutN word) word
+
+-- a label discharged by an operation of level T, of level A over a group of so many rows, or by noise
 unfoldable pub transformed : ℕ → ℕ → ℕ → LabelVerdict
 transformed word operation digits = cond (forbidsT word) forbidden (label (afterT word operation digits))
 
 unfoldable pub aggregated : ℕ → ℕ → ℕ → LabelVerdict
 aggregated word operation rows = cond (forbidsA word) forbidden (label (afterA word operation rows))
+
+unfoldable pub noised : ℕ → LabelVerdict
+noised word = cond (forbidsN word) forbidden (label (afterN word))
 
 -- the library's answers, for every word and every operation
 unfoldable pub transformAnswer : ℕ → ℕ → ℕ → LabelVerdict
@@ -72,3 +89,6 @@ transformAnswer word operation digits =
 unfoldable pub aggregateAnswer : ℕ → ℕ → ℕ → LabelVerdict
 aggregateAnswer word operation rows =
     cond (wellFormed word) (cond (aggregateExists operation) (aggregated word operation rows) (refused 17 0)) (refused 15 0)
+
+unfoldable pub noiseAnswer : ℕ → LabelVerdict
+noiseAnswer word = cond (wellFormed word) (noised word) (refused 15 0)

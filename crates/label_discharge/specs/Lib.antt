@@ -1,2 +1,2 @@
--- "Discharge: an operation has level T or A." This file is what a reader must believe.
+-- Discharge at the levels T, A and N. This file is what a reader must believe.
 pub mod Discharge

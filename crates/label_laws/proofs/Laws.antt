@@ -2,17 +2,17 @@
 -- Assumes nothing.
 use Prim.Native.Nat.{ℕ, _+_, _<_, max}
 use mathlib.Core.Path.{_≡_, refl, sym, _∙_}
-use mathlib.Core.Bool.{Bool, true, false, cond, not, _&&_, _||_, and-comm as swap}
+use mathlib.Core.Bool.{Bool, true, false, cond, not, _&&_, _||_, true≢false, and-comm as swap}
 use native.Mathlib.Nat.{max-comm}
 use native.Mathlib.Omega.{arith}
 use lib.Bits.{bitAnd, bitOr, and-comm, or-comm, and-self, or-self, or-zero-r}
 use lib.Dec.{eqb, ltb, eqb→eq, lit<}
 use Rattle.label_composition.specs.Composition.{merged, transformsBoth, digitsBoth, aggregatesBoth, minimumBoth, noiseBoth, composed}
-use Rattle.label_discharge.specs.Discharge.{forbidsT, forbidsA, afterT, afterA, allowsTransform, allowsAggregate, dischargesA, withoutT, withoutA}
+use Rattle.label_discharge.specs.Discharge.{forbidsT, forbidsA, forbidsN, afterT, afterA, afterN, allowsTransform, allowsAggregate, dischargesA, allowsNoise, withoutT, withoutA, withoutN}
 use Rattle.label_words.specs.Stages.{one, stageCount, highest, topmost}
 use Rattle.label_words.specs.WellFormed.{digitsFit, minimumFits, wellFormed}
 use Rattle.label_words.specs.Word.{fieldAt, bitAt, hasH, hasT, hasA, hasN, stagesOf, transformsOf, digitsOf, aggregatesOf, minimumOf, noiseOf, packed}
-use Rattle.label_laws.specs.Laws.{ComposedWellFormed, Commutative, Associative, Idempotent, ClearIsUnit, rank, ForbiddenAbove, DischargesHighest, DischargedWellFormed, NoStageIsClear}
+use Rattle.label_laws.specs.Laws.{ComposedWellFormed, Commutative, Associative, Idempotent, ClearIsUnit, rank, ForbiddenAbove, DischargesHighest, DischargedWellFormed, NoiseClears, NoStageIsClear}
 use Rattle.label_words.specs.declared.Highest.{Highest}
 use Rattle.label_words.proofs.Below.{below}
 use Rattle.label_words.proofs.Packed.{Fields, packed-fields, repacked, same-packed, bit-of-field, bit-or, bit-and}
@@ -170,6 +170,10 @@ module _ (word : ℕ) where
   unfolding withoutA
   fields-A = packed-fields _ _ _ _ _ _ (and-below (stagesOf word) 0b1101 (field-lt word 28 4)) (field-lt word 24 4) (field-lt word 23 1) (lit< tt) (field-lt word 10 3) (lit< tt)
 
+  pub fields-N : Fields (withoutN word) (bitAnd (stagesOf word) 0b1110) (transformsOf word) 0 (aggregatesOf word) (digitsOf word) (minimumOf word)
+  unfolding withoutN
+  fields-N = packed-fields _ _ _ _ _ _ (and-below (stagesOf word) 0b1110 (field-lt word 28 4)) (field-lt word 24 4) (lit< tt) (field-lt word 16 5) (field-lt word 10 3) (field-lt word 0 10)
+
   pub stages-T : StagesLeft word (withoutT word) true false true true
   unfolding fieldAt
   stages-T = masked word (withoutT word) 0b1011 (fields-T .stages)
@@ -178,10 +182,24 @@ module _ (word : ℕ) where
   unfolding fieldAt
   stages-A = masked word (withoutA word) 0b1101 (fields-A .stages)
 
-  -- without stage T an aggregate is allowed as before
+  pub stages-N : StagesLeft word (withoutN word) true true true false
+  unfolding fieldAt
+  stages-N = masked word (withoutN word) 0b1110 (fields-N .stages)
+
+  -- without stage T an aggregate is allowed as before, and without T or A so is noise
   pub same-aggregates : (operation : ℕ) → operation < 5 → allowsAggregate (withoutT word) operation ≡ allowsAggregate word operation
   unfolding allowsAggregate
   same-aggregates operation h = rw (← bit-of-field (withoutT word) 16 5 operation h, fields-T .aggregates, bit-of-field word 16 5 operation h)
+
+  same-noise : (left : ℕ) → noiseOf left ≡ noiseOf word → allowsNoise left ≡ allowsNoise word
+  unfolding allowsNoise
+  same-noise left e = rw (← bit-of-field left 23 1 0 (lit< tt), e, bit-of-field word 23 1 0 (lit< tt))
+
+  pub same-noise-T : allowsNoise (withoutT word) ≡ allowsNoise word
+  same-noise-T = same-noise (withoutT word) (fields-T .noise)
+
+  pub same-noise-A : allowsNoise (withoutA word) ≡ allowsNoise word
+  same-noise-A = same-noise (withoutA word) (fields-A .noise)
 
   module _ (wf : wellFormed word ≡ true) where
     pub without-T-well-formed : wellFormed (withoutT word) ≡ true
@@ -214,6 +232,20 @@ module _ (word : ℕ) where
           noise = rw (stages-A .N, fields-A .noise) (p .noise);
         }
 
+    pub without-N-well-formed : wellFormed (withoutN word) ≡ true
+    without-N-well-formed =
+        let p = parts word wf in
+        whole (withoutN word) record {
+          small = fields-N .small;
+          upper = fields-N .upper;
+          lower = fields-N .lower;
+          transforms = rw (stages-N .T, fields-N .transforms) (p .transforms);
+          digits = rw (fields-N .transforms, fields-N .digits) (p .digits);
+          aggregates = rw (stages-N .A, fields-N .aggregates) (p .aggregates);
+          minimum = rw (stages-N .A, fields-N .minimum) (p .minimum);
+          noise = rw (stages-N .N, fields-N .noise);
+        }
+
 cond-well-formed : (b : Bool) (x y : ℕ) → wellFormed x ≡ true → wellFormed y ≡ true → wellFormed (cond b x y) ≡ true
 cond-well-formed true x y p q = p
 cond-well-formed false x y p q = q
@@ -227,6 +259,18 @@ module _ (word : ℕ) where
   pub forbids-A : forbidsA word ≡ (hasH word || hasT word)
   unfolding forbidsA
   forbids-A = refl
+
+  pub forbids-N : forbidsN word ≡ (hasH word || hasT word || hasA word)
+  unfolding forbidsN
+  forbids-N = refl
+
+  pub after-N : afterN word ≡ cond (not (forbidsN word) && hasN word && allowsNoise word) (withoutN word) word
+  unfolding afterN
+  after-N = refl
+
+  pub after-N-well-formed : wellFormed word ≡ true → wellFormed (afterN word) ≡ true
+  unfolding afterN
+  after-N-well-formed wf = cond-well-formed (not (forbidsN word) && hasN word && allowsNoise word) (withoutN word) word (without-N-well-formed word wf) wf
 
   module _ (operation measure : ℕ) where
     pub after-T : afterT word operation measure ≡ cond (not (hasH word) && hasT word && allowsTransform word operation measure) (withoutT word) word
@@ -246,33 +290,35 @@ module _ (word : ℕ) where
     after-A-well-formed wf = cond-well-formed (not (forbidsA word) && hasA word && dischargesA word operation measure) (withoutA word) word (without-A-well-formed word wf) wf
 
 -- the highest stage, by the four stages
-record First (h t a : Bool) (top : Highest) : Type 0 where
+record First (h t a n : Bool) (top : Highest) : Type 0 where
   above-T : h ≡ ltb 3 (rank top)
   above-A : (h || t) ≡ ltb 2 (rank top)
+  above-N : (h || t || a) ≡ ltb 1 (rank top)
   is-T : (not h && t) ≡ eqb (rank top) 3
   is-A : (not (h || t) && a) ≡ eqb (rank top) 2
+  is-N : (not (h || t || a) && n) ≡ eqb (rank top) 1
 
-first : (h t a n : Bool) → First h t a (topmost h t a n)
-first true t a n = record { above-T = refl; above-A = refl; is-T = refl; is-A = refl }
-first false true a n = record { above-T = refl; above-A = refl; is-T = refl; is-A = refl }
-first false false true n = record { above-T = refl; above-A = refl; is-T = refl; is-A = refl }
-first false false false true = record { above-T = refl; above-A = refl; is-T = refl; is-A = refl }
-first false false false false = record { above-T = refl; above-A = refl; is-T = refl; is-A = refl }
+first : (h t a n : Bool) → First h t a n (topmost h t a n)
+first true t a n = record { above-T = refl; above-A = refl; above-N = refl; is-T = refl; is-A = refl; is-N = refl }
+first false true a n = record { above-T = refl; above-A = refl; above-N = refl; is-T = refl; is-A = refl; is-N = refl }
+first false false true n = record { above-T = refl; above-A = refl; above-N = refl; is-T = refl; is-A = refl; is-N = refl }
+first false false false true = record { above-T = refl; above-A = refl; above-N = refl; is-T = refl; is-A = refl; is-N = refl }
+first false false false false = record { above-T = refl; above-A = refl; above-N = refl; is-T = refl; is-A = refl; is-N = refl }
 
-of-word : (word : ℕ) → First (hasH word) (hasT word) (hasA word) (highest word)
+of-word : (word : ℕ) → First (hasH word) (hasT word) (hasA word) (hasN word) (highest word)
 unfolding highest
 of-word word = first (hasH word) (hasT word) (hasA word) (hasN word)
 
 pub forbidden-above : ForbiddenAbove
-unfolding forbidsT forbidsA
-forbidden-above word = (of-word word .above-T, of-word word .above-A)
+unfolding forbidsT forbidsA forbidsN
+forbidden-above word = (of-word word .above-T, of-word word .above-A, of-word word .above-N)
 
 pub discharges-highest : DischargesHighest
-unfolding forbidsT forbidsA afterT afterA
-discharges-highest word operation measure = (rw (of-word word .is-T), rw (of-word word .is-A))
+unfolding forbidsT forbidsA forbidsN afterT afterA afterN
+discharges-highest word operation measure = (rw (of-word word .is-T), rw (of-word word .is-A), rw (of-word word .is-N))
 
 pub discharge-well-formed : DischargedWellFormed
-discharge-well-formed word operation measure wf = (after-T-well-formed word operation measure wf, after-A-well-formed word operation measure wf)
+discharge-well-formed word operation measure wf = (after-T-well-formed word operation measure wf, after-A-well-formed word operation measure wf, after-N-well-formed word wf)
 
 -- ---- clear labels
 
@@ -315,3 +361,18 @@ no-stage-clear word wf e =
     let p = parts word wf in
     sym (is-packed word wf)
     ∙ same-packed (stages-zero word e) (no-transforms word p (n .1)) (no-noise word p (n .3)) (no-aggregates word p (n .2)) (no-cut word p (n .1)) (no-minimum word p (n .2))
+
+-- a word with no stage above N
+none-above : (h t a : Bool) → (h || t || a) ≡ false → (h ≡ false) × (t ≡ false) × (a ≡ false)
+none-above true t a e = absurd (true≢false e)
+none-above false true a e = absurd (true≢false e)
+none-above false false true e = absurd (true≢false e)
+none-above false false false e = (refl, refl, refl)
+
+pub noise-clears : NoiseClears
+unfolding stageCount
+noise-clears word wf e allowed =
+    let l = stages-N word in
+    let n = none-above (hasH word) (hasT word) (hasA word) (of-word word .above-N ∙ rw e) in
+    discharges-highest word 0 0 .2 ∙ rw (e, allowed)
+    (no-stage-clear (withoutN word) (without-N-well-formed word wf) (rw (l .H, l .T, l .A, l .N, n .0, n .1, n .2)))

@@ -8,9 +8,9 @@ use lib.Bits.{bitAnd}
 use lib.Dec.{leb, lit<}
 use borrow.Author.Tests.{eqb-true, leb-true, le-leb}
 use Rattle.label_composition.specs.Composition.{merged, digitsWith, transformsBoth, digitsBoth, aggregatesBoth, minimumBoth, noiseBoth, composed}
-use Rattle.label_discharge.specs.Discharge.{isCut, forbidsT, forbidsA, allowsTransform, allowsAggregate, enoughRows, dischargesA, withoutT, withoutA, afterT, afterA}
+use Rattle.label_discharge.specs.Discharge.{isCut, forbidsT, forbidsA, forbidsN, allowsTransform, allowsAggregate, enoughRows, dischargesA, allowsNoise, withoutT, withoutA, withoutN, afterT, afterA, afterN}
 use Rattle.label_words.specs.Word.{fieldAt, bitAt, hasH, hasT, hasA, hasN, transformsOf, digitsOf, minimumOf}
-use Rattle.label_laws.proofs.Laws.{fields, either-H, either-T, either-A, either-N, compose-comm, fields-T, fields-A, stages-T, stages-A}
+use Rattle.label_laws.proofs.Laws.{fields, either-H, either-T, either-A, either-N, compose-comm, fields-T, fields-A, fields-N, stages-T, stages-A, stages-N}
 use Rattle.label_words.proofs.Packed.{bit-of-field, bit-and}
 use Rattle.label_laws.specs.Order.{AsStrict, Reflexive, Transitive, ClearBelow, AllowsLess, ComposedAbove, ComposedLeast, DischargeLowers}
 
@@ -60,8 +60,8 @@ both-true : {a b : Bool} → a ≡ true → b ≡ true → (a && b) ≡ true
 both-true e f = rw (e, f)
 
 pub allows-less : AllowsLess
-unfolding allowsTransform allowsAggregate enoughRows
-allows-less a b p = (λ t operation digits h e. transform t operation digits h e, λ t operation rows h e. aggregate t operation rows h e)
+unfolding allowsTransform allowsAggregate enoughRows allowsNoise
+allows-less a b p = (λ t operation digits h e. transform t operation digits h e, λ t operation rows h e. aggregate t operation rows h e, p .noise)
   where
     enough : (cut : Bool) (x y k : ℕ) → (cut ≡ true → x ≤ y) → (not cut || leb y k) ≡ true → (not cut || leb x k) ≡ true
     enough true x y k le e = le-leb x k (le-trans (le refl) (leb-true y k e))
@@ -247,13 +247,31 @@ module _ (word : ℕ) where
         noise = λ t e. same-bit (withoutA word) word 23 1 (f .noise) 0 (lit< tt) ∙ e;
       }
 
+  without-N : AsStrict (withoutN word) word
+  without-N =
+      let l = stages-N word in
+      let f = fields-N word in
+      let none : hasN (withoutN word) ≡ true → ⊥ = λ t. false≢true (sym (l .N) ∙ t) in
+      record {
+        H = λ e. sym (l .H) ∙ e;
+        T = λ e. sym (l .T) ∙ e;
+        A = λ e. sym (l .A) ∙ e;
+        N = λ e. absurd (none e);
+        transforms = λ t i h e. same-bit (withoutN word) word 24 4 (f .transforms) i h ∙ e;
+        digits = λ t e. le-of-eq (f .digits);
+        aggregates = λ t i h e. same-bit (withoutN word) word 16 5 (f .aggregates) i h ∙ e;
+        minimum = λ t. le-of-eq (f .minimum);
+        noise = λ t e. absurd (none t);
+      }
+
 lowered-or-not : (b : Bool) {left word : ℕ} → AsStrict left word → AsStrict (cond b left word) word
 lowered-or-not true p = p
 lowered-or-not false {left} {word} p = reflexive word
 
 pub discharge-lowers : DischargeLowers
-unfolding afterT afterA
+unfolding afterT afterA afterN
 discharge-lowers label operation = (
   λ digits. lowered-or-not (not (forbidsT label) && hasT label && allowsTransform label operation digits) (without-T label),
   λ rows. lowered-or-not (not (forbidsA label) && hasA label && dischargesA label operation rows) (without-A label),
+  lowered-or-not (not (forbidsN label) && hasN label && allowsNoise label) (without-N label),
 )

@@ -3,7 +3,7 @@ use Prim.Native.Nat.{ℕ, _+_, _≤_, _<_}
 use mathlib.Core.Path.{_≡_}
 use mathlib.Core.Bool.{true}
 use Rattle.label_composition.specs.Composition.{composed}
-use Rattle.label_discharge.specs.Discharge.{allowsTransform, dischargesA, afterT, afterA}
+use Rattle.label_discharge.specs.Discharge.{allowsTransform, dischargesA, allowsNoise, afterT, afterA, afterN}
 use Rattle.label_words.specs.Word.{bitAt, hasH, hasT, hasA, hasN, digitsOf, minimumOf}
 
 -- b is at least as strict as a: every stage of a is a stage of b, and in each stage of a, b allows no operation that a does not, has no smaller
@@ -34,6 +34,7 @@ abbrev pub AllowsLess : Type 0
 AllowsLess = (a b : ℕ) → AsStrict a b
     → (hasT a ≡ true → (operation digits : ℕ) → operation < 4 → allowsTransform b operation digits ≡ true → allowsTransform a operation digits ≡ true)
     × (hasA a ≡ true → (operation rows : ℕ) → operation < 5 → dischargesA b operation rows ≡ true → dischargesA a operation rows ≡ true)
+    × (hasN a ≡ true → allowsNoise b ≡ true → allowsNoise a ≡ true)
 
 -- "Composition of two labels" is at least as strict as both, and no stricter than any label that is
 abbrev pub ComposedAbove : Type 0
@@ -46,3 +47,4 @@ ComposedLeast = (a b c : ℕ) → AsStrict a c → AsStrict b c → AsStrict (co
 abbrev pub DischargeLowers : Type 0
 DischargeLowers = (label operation : ℕ)
     → ((digits : ℕ) → AsStrict (afterT label operation digits) label) × ((rows : ℕ) → AsStrict (afterA label operation rows) label)
+    × AsStrict (afterN label) label

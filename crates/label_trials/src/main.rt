@@ -14,6 +14,8 @@ fn main() {
     transforms_2();
     aggregates_1();
     aggregates_2();
+    noises_1();
+    noises_2();
 }
 
 fn words_1() {
@@ -140,6 +142,34 @@ fn aggregates_2() {
     aggregate(0x20000001, 0, 0);
 }
 
+fn noises_1() {
+    noise(0x10800000);
+    noise(0x10000000);
+    noise(0x00000000);
+    noise(0x20020002);
+    noise(0x20000001);
+    noise(0x30820002);
+    noise(0x30000200);
+    noise(0x41000000);
+    noise(0x50800000);
+    noise(0x64030C14);
+    noise(0x74830C14);
+}
+
+fn noises_2() {
+    noise(0x80000000);
+    noise(0x90800000);
+    noise(0xF0000001);
+    noise(0xFF9F1BFF);
+    noise(0x00800000);
+    noise(0x10800001);
+    noise(0x14800C00);
+    noise(0x10808000);
+    noise(0x30830000);
+    noise(0x90400000);
+    noise(0xFFFFFFFF);
+}
+
 // The test of a word, its count of stages and its highest stage.
 fn word(word: u32) {
     hex(word);
@@ -184,6 +214,12 @@ fn transform(word: u32, operation: u32, digits: u32) {
 fn aggregate(word: u32, operation: u32, rows: u32) {
     asked(word, b" aggregate ", operation, b" rows ", rows);
     answer(label::discharge_aggregate(word, operation, rows));
+}
+
+fn noise(word: u32) {
+    hex(word);
+    text(b" noise");
+    answer(label::discharge_noise(word));
 }
 
 fn asked(word: u32, level: &[u8], operation: u32, unit: &[u8], count: u32) {

@@ -6,6 +6,7 @@ use mathlib.Core.List.{List, [], _∷_}
 use native.Mathlib.Omega.{arith}
 use lib.ListN.{length, take, drop}
 use Rattle.cells.specs.promises.Cells.{Wide}
+use Rattle.plan.specs.Supply.{Supply}
 use Rattle.plan.specs.Table.{flat, Each, Row, Table, rowsOf}
 use Rattle.cells.specs.promises.Search.{says, unfit}
 use Rattle.cells.specs.promises.Work.{Work, cellsIn, Kept}
@@ -13,7 +14,7 @@ use Rattle.cells.specs.promises.Written.{CellsWritten}
 use Rattle.widths.specs.declared.Width.the-variants.{Columns, Misplaced}
 use Rattle.memory.specs.Refusals.{refusalTells}
 use Rattle.memory.specs.declared.Refusal.{Refusal}
-use Rattle.memory.specs.declared.Refusal.the-variants.{NotClear, Forbidden, OperandNotClear, TooMany}
+use Rattle.memory.specs.declared.Refusal.the-variants.{NotClear, Forbidden, OperandNotClear, TooMany, NoDraw}
 use Rattle.memory.specs.declared.Stack.{Stack}
 use Rattle.memory.specs.declared.StepAnswer.{StepAnswer}
 use Rattle.memory.specs.declared.StepAnswer.the-variants.{Made, Refused, DoesNotFit}
@@ -73,6 +74,7 @@ verdicts (NotClear row column) = record { number = 31; row = row; column = colum
 verdicts (Forbidden row column) = record { number = 32; row = row; column = column; tells = λ tell. refl; is = refl }
 verdicts (OperandNotClear row column) = record { number = 33; row = row; column = column; tells = λ tell. refl; is = refl }
 verdicts TooMany = record { number = 34; row = 256; column = 0; tells = λ tell. refl; is = refl }
+verdicts (NoDraw row column) = record { number = 37; row = row; column = column; tells = λ tell. refl; is = refl }
 
 -- the first refusal of two: nothing after a refusal counts
 pub refusal-stands : (refusal : Refusal) {u : Verdict} (v : Verdict) → says (refusalSays refusal) ≡ says u → says (refusalSays refusal) ≡ says (orElse u v)
@@ -83,8 +85,8 @@ refusal-stands refusal v e =
 pub goes-on : {u : Verdict} (v : Verdict) → says fine ≡ says u → orElse u v ≡ v
 goes-on v e = ap (λ (w : Verdict). orElse w v) (sym (says-is e))
 
-module _ {fit : Bool} (step : Step) (tables : List Table) (before : Work) (stack : Stack) where
-  pub unfit-done : fit ≡ false → DoneWhere fit step tables before stack (record { answer = DoesNotFit; stack = stack }) before
+module _ {fit : Bool} (step : Step) (supply : Supply) (before : Work) (stack : Stack) where
+  pub unfit-done : fit ≡ false → DoneWhere fit step supply before stack (record { answer = DoesNotFit; stack = stack }) before
   unfit-done f = record {
     misfit = λ _. (refl, refl, refl);
     answer = λ t. clash t f;
@@ -95,10 +97,10 @@ module _ {fit : Bool} (step : Step) (tables : List Table) (before : Work) (stack
 
   module _ (t : fit ≡ true) where
     -- a refusal that has changed nothing below the last slot, and nothing at all but for JOIN's 34
-    pub refused-done : (refusal : Refusal) (after : Work) → verdict step tables (stackIn before stack) ≡ refusalSays refusal → Kept before after
+    pub refused-done : (refusal : Refusal) (after : Work) → verdict step supply (stackIn before stack) ≡ refusalSays refusal → Kept before after
         → take lastSlot (after .values) ≡ take lastSlot (before .values) → take lastSlot (after .labels) ≡ take lastSlot (before .labels)
         → ((number row column : ℕ) → refusalSays refusal ≡ refused number row column → leavesRows step number ≡ false → after ≡ before)
-        → DoneWhere fit step tables before stack (record { answer = Refused refusal; stack = stack }) after
+        → DoneWhere fit step supply before stack (record { answer = Refused refusal; stack = stack }) after
     refused-done refusal after v k values labels same = record {
       misfit = λ f. clash t f;
       answer = λ _. ap says (sym v);
@@ -112,18 +114,18 @@ module _ {fit : Bool} (step : Step) (tables : List Table) (before : Work) (stack
       kept = k;
     }
 
-    pub unchanged-done : (refusal : Refusal) → verdict step tables (stackIn before stack) ≡ refusalSays refusal
-        → DoneWhere fit step tables before stack (record { answer = Refused refusal; stack = stack }) before
+    pub unchanged-done : (refusal : Refusal) → verdict step supply (stackIn before stack) ≡ refusalSays refusal
+        → DoneWhere fit step supply before stack (record { answer = Refused refusal; stack = stack }) before
     unchanged-done refusal v = refused-done refusal before v (kept-none before) refl refl (λ _ _ _ _ _. refl)
 
     -- a table of so many rows and columns that stands in a slot, with nothing changed below it
     pub made-done : (index columns count : ℕ) (rows : List Row) (after : Work) → Ready (length (before .values)) (length (before .labels)) stack
-        → verdict step tables (stackIn before stack) ≡ fine → index < 3 → stack .depth ≡ index + takes step
-        → make step tables (stackIn before stack) ≡ record { columns = columns; rows = rows }
+        → verdict step supply (stackIn before stack) ≡ fine → index < 3 → stack .depth ≡ index + takes step
+        → make step supply (stackIn before stack) ≡ record { columns = columns; rows = rows }
         → columns ≤ 8 → count ≤ 256 → count ≡ length rows
         → rowsOf columns count (drop (slot index) (cellsIn after)) ≡ rows
         → take (slot index) (cellsIn after) ≡ take (slot index) (cellsIn before) → length (cellsIn after) ≡ length (cellsIn before) → Kept before after
-        → DoneWhere fit step tables before stack (record { answer = Made; stack = withTable stack index columns count }) after
+        → DoneWhere fit step supply before stack (record { answer = Made; stack = withTable stack index columns count }) after
     made-done index columns count rows after r allowed low depth made few-columns few-rows counted read lower long kept =
         let there : stack .depth - takes step ≡ index = omega arith in
         let stands = stack-with before after stack index (takes step) columns count rows r
@@ -143,36 +145,36 @@ module _ {fit : Bool} (step : Step) (tables : List Table) (before : Work) (stack
 
     -- the same of rows that stand at a slot's beginning
     pub rows-done : (index columns count : ℕ) (rows : List Row) {at : ℕ} (after : Work) → Ready (length (before .values)) (length (before .labels)) stack
-        → verdict step tables (stackIn before stack) ≡ fine → index < 3 → stack .depth ≡ index + takes step
-        → make step tables (stackIn before stack) ≡ record { columns = columns; rows = rows }
+        → verdict step supply (stackIn before stack) ≡ fine → index < 3 → stack .depth ≡ index + takes step
+        → make step supply (stackIn before stack) ≡ record { columns = columns; rows = rows }
         → columns ≤ 8 → count ≤ 256 → count ≡ length rows → at ≡ slot index → RowsAt at columns count rows before after
-        → DoneWhere fit step tables before stack (record { answer = Made; stack = withTable stack index columns count }) after
+        → DoneWhere fit step supply before stack (record { answer = Made; stack = withTable stack index columns count }) after
     rows-done index columns count rows after r allowed low depth made few-columns few-rows counted place stand =
         made-done index columns count rows after r allowed low depth made few-columns few-rows counted
         (rw place at (stand .read)) (rw place at (stand .lower)) (stand .as-long) (stand .kept)
 
     -- a table written into a slot, from its first cell on
     pub written-done : (index columns count : ℕ) (rows : List Row) (after : Work) → Ready (length (before .values)) (length (before .labels)) stack
-        → verdict step tables (stackIn before stack) ≡ fine → index < 3 → stack .depth ≡ index + takes step
-        → make step tables (stackIn before stack) ≡ record { columns = columns; rows = rows }
+        → verdict step supply (stackIn before stack) ≡ fine → index < 3 → stack .depth ≡ index + takes step
+        → make step supply (stackIn before stack) ≡ record { columns = columns; rows = rows }
         → columns ≤ 8 → count ≤ 256 → count ≡ length rows → Each (Wide columns) rows
         → CellsWritten before (slot index) (flat rows) after → Kept before after
-        → DoneWhere fit step tables before stack (record { answer = Made; stack = withTable stack index columns count }) after
+        → DoneWhere fit step supply before stack (record { answer = Made; stack = withTable stack index columns count }) after
     written-done index columns count rows after r allowed low depth made few-columns few-rows counted wide written kept =
         made-done index columns count rows after r allowed low depth made few-columns few-rows counted
         (ap₂ (rowsOf columns) counted (from-written written) ∙ rows-flat columns rows _ wide) (below-written written) (as-long written) kept
 
   -- an answer other than that the table is made, before anything has changed
-  pub answered-done : (answer : StepAnswer) {v : Verdict} → OneOf (1 ∷ 2 ∷ []) (tagOf the-type answer) → verdict step tables (stackIn before stack) ≡ v → stepSays answer ≡ cond fit (says v) unfit
-      → DoneWhere fit step tables before stack (record { answer = answer; stack = stack }) before
+  pub answered-done : (answer : StepAnswer) {v : Verdict} → OneOf (1 ∷ 2 ∷ []) (tagOf the-type answer) → verdict step supply (stackIn before stack) ≡ v → stepSays answer ≡ cond fit (says v) unfit
+      → DoneWhere fit step supply before stack (record { answer = answer; stack = stack }) before
   answered-done Made k e said = absurd (miss (1 ∷ 2 ∷ []) 0 tt k)
   answered-done (Refused refusal) {v} k e said = go fit refl said
     where
-      go : (b : Bool) → fit ≡ b → says (refusalSays refusal) ≡ cond b (says v) unfit → DoneWhere fit step tables before stack (record { answer = Refused refusal; stack = stack }) before
+      go : (b : Bool) → fit ≡ b → says (refusalSays refusal) ≡ cond b (says v) unfit → DoneWhere fit step supply before stack (record { answer = Refused refusal; stack = stack }) before
       go true t said = unchanged-done t refusal (e ∙ sym (says-is said))
       go false f said = absurd (never-unfit (sym said))
   answered-done DoesNotFit {v} k e said = go fit refl said
     where
-      go : (b : Bool) → fit ≡ b → unfit ≡ cond b (says v) unfit → DoneWhere fit step tables before stack (record { answer = DoesNotFit; stack = stack }) before
+      go : (b : Bool) → fit ≡ b → unfit ≡ cond b (says v) unfit → DoneWhere fit step supply before stack (record { answer = DoesNotFit; stack = stack }) before
       go true t said = absurd (never-unfit said)
       go false f said = unfit-done f

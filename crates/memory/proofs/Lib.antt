@@ -6,4 +6,5 @@ pub mod TopLabels
 pub mod MovedDown
 pub mod Forbids
 pub mod FormedTables
+pub mod RefusedRows
 mod TopWidths

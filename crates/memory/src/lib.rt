@@ -31,12 +31,13 @@ pub struct LiveTable {
     pub columns: usize,
 }
 
-// What a step refuses because of the state, with its row and column: 31, 32, 33, and 34, whose place is fixed.
+// What a step refuses because of the state, with its row and column: 31, 32, 33, 34, whose place is fixed, and 37.
 pub enum Refusal {
     NotClear(usize, usize),
     Forbidden(usize, usize),
     OperandNotClear(usize, usize),
     TooMany,
+    NoDraw(usize, usize),
 }
 
 // What a step answers: it made its table, it is refused, or its arguments do not fit.

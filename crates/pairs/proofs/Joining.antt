@@ -9,6 +9,7 @@ use lib.ListN.{length, take, drop, length-append}
 use borrow.Author.Tests.{lt-ltb}
 use Rattle.plan.specs.Join.{matches, joinedRow, joinedTo, joinedRows, joined}
 use Rattle.plan.specs.Steps.{make}
+use Rattle.plan.specs.Supply.{supplied}
 use Rattle.plan.specs.Table.{Cell, Row, Table, rowsOf, Each}
 use Rattle.plan.specs.Widths.{columnsExist}
 use Rattle.plan.specs.declared.Step.the-variants.{Join}
@@ -47,7 +48,7 @@ unfolding make joined columnsExist
 rows-joined-wide a b n m h k lefts rights l r =
     let left : Table = record { columns = n; rows = lefts } in
     let right : Table = record { columns = m; rows = rights } in
-    made-shaped (Join a b) [] (right ∷ left ∷ []) (rw (lt-ltb a n h, lt-ltb b m k)) tt (r, (l, tt)) .0
+    made-shaped (Join a b) (supplied [] []) (right ∷ left ∷ []) (rw (lt-ltb a n h, lt-ltb b m k)) tt (r, (l, tt)) .0
 
 pub to-joined-wide : (a b n m : ℕ) → a < n → b < m → (left : Row) (rights : List Row) → Wide n left → Each (Wide m) rights → Each (Wide (n + (m - 1))) (joinedTo a b left rights)
 to-joined-wide a b n m h k left rights l r = rw append-nil at (rows-joined-wide a b n m h k (left ∷ []) rights (l, tt) r)

@@ -7,8 +7,9 @@ use native.Mathlib.Omega.{arith}
 use lib.ListN.{length, drop}
 use Rattle.plan.specs.Evaluate.{release, refuse, Result, checkRelease, ending, behind, evaluateFrom, evaluate}
 use Rattle.plan.specs.Sense.Ending.{ReleaseIsLast, StepRefuses, ReleaseRefuses, TraceLength}
-use Rattle.plan.specs.Sense.Trace.{stackLeft}
-use Rattle.plan.specs.Steps.{takes, check, make, tooMany}
+use Rattle.plan.specs.Sense.Trace.{stackLeft, supplyLeft}
+use Rattle.plan.specs.Steps.{takes, check, make, tooMany, supplyAfter}
+use Rattle.plan.specs.Supply.{Supply}
 use Rattle.plan.specs.Table.{Table, grid, top}
 use Rattle.plan.specs.Trace.{Line}
 use Rattle.plan.specs.Verdict.{Verdict, fine, refused, orElse}
@@ -37,18 +38,18 @@ one-more line number steps later c = record {
   refused-at = λ n at row column e. omega (arith, c .refused-at n at row column e);
 }
 
-counted : (tables : List Table) (number : ℕ) (stack : List Table) (plan : List Step) → Counted number (length plan) (evaluateFrom tables number stack plan)
+counted : (supply : Supply) (number : ℕ) (stack : List Table) (plan : List Step) → Counted number (length plan) (evaluateFrom supply number stack plan)
 unfolding evaluateFrom
-counted tables number stack [] =
+counted supply number stack [] =
     ended (checkRelease (top stack)) number 0 _ (record { released = λ table e. refl; refused-at = λ n at row column e. absurd (not-refused e) })
-counted tables number stack (next ∷ later) =
-    ended (check next (map grid stack)) number _ _
-    (ended (tooMany next (make next tables stack)) number _ _ (one-more _ number (length later) _ (counted tables (suc number) (make next tables stack ∷ drop (takes next) stack) later)))
+counted supply number stack (next ∷ later) =
+    ended (check next (length (supply .draws)) (map grid stack)) number _ _
+    (ended (tooMany next (make next supply stack)) number _ _ (one-more _ number (length later) _ (counted (supplyAfter next stack supply) (suc number) (make next supply stack ∷ drop (takes next) stack) later)))
 
 pub trace-length : TraceLength
 unfolding evaluate
-trace-length plan tables =
-    let c = counted tables 0 [] plan in
+trace-length plan supply =
+    let c = counted supply 0 [] plan in
     (c .released, λ number step row column e. omega (arith, c .refused-at number step row column e))
 
 -- ---- what is released, and which check refuses
@@ -70,58 +71,60 @@ refused-here fine fine number result n row column h e = absurd (h e)
 refused-here fine (refused m r c) number result n row column h e = cc
 refused-here (refused m r c) w number result n row column h e = cc
 
-module _ (tables : List Table) where
-  abbrev next-stack : Step → List Table → List Table
-  next-stack step stack = make step tables stack ∷ drop (takes step) stack
+-- the stack and the supply after a step
+abbrev next-stack : Step → Supply → List Table → List Table
+next-stack step supply stack = make step supply stack ∷ drop (takes step) stack
 
-  release-from : (number : ℕ) (stack : List Table) (plan : List Step) (table : Table) → evaluateFrom tables number stack plan .outcome ≡ release table
-      → (table ≡ top (stackLeft tables stack plan)) × (checkRelease table ≡ fine)
-  unfolding evaluateFrom
-  release-from number stack [] table e =
-      let r = released (checkRelease (top stack)) number _ table e in
-      let same : table ≡ top stack = cc (r .1) in
-      (same, rw same (r .0))
-  release-from number stack (next ∷ later) table e =
-      let c = released (check next (map grid stack)) number _ table e in
-      let r = released (tooMany next (make next tables stack)) number _ table (c .1) in
-      release-from (suc number) (next-stack next stack) later table (r .1)
+release-from : (supply : Supply) (number : ℕ) (stack : List Table) (plan : List Step) (table : Table) → evaluateFrom supply number stack plan .outcome ≡ release table
+    → (table ≡ top (stackLeft supply stack plan)) × (checkRelease table ≡ fine)
+unfolding evaluateFrom
+release-from supply number stack [] table e =
+    let r = released (checkRelease (top stack)) number _ table e in
+    let same : table ≡ top stack = cc (r .1) in
+    (same, rw same (r .0))
+release-from supply number stack (next ∷ later) table e =
+    let c = released (check next (length (supply .draws)) (map grid stack)) number _ table e in
+    let r = released (tooMany next (make next supply stack)) number _ table (c .1) in
+    release-from (supplyAfter next stack supply) (suc number) (next-stack next supply stack) later table (r .1)
 
-  -- a refusal at a later step goes through this one
-  through : (number : ℕ) (stack : List Table) (next : Step) (later : List Step) (n k row column : ℕ)
-      → evaluateFrom tables number stack (next ∷ later) .outcome ≡ refuse n (number + suc k) row column
-      → evaluateFrom tables (suc number) (next-stack next stack) later .outcome ≡ refuse n (suc number + k) row column
-  unfolding evaluateFrom
-  through number stack next later n k row column e =
-      let at : number + suc k ≡ suc number + k = omega arith in
-      rw at at
-      (refused-later (tooMany next (make next tables stack)) number _ n (number + suc k) row column (λ q. omega arith)
-      (refused-later (check next (map grid stack)) number _ n (number + suc k) row column (λ q. omega arith) e))
+-- a refusal at a later step goes through this one
+through : (supply : Supply) (number : ℕ) (stack : List Table) (next : Step) (later : List Step) (n k row column : ℕ)
+    → evaluateFrom supply number stack (next ∷ later) .outcome ≡ refuse n (number + suc k) row column
+    → evaluateFrom (supplyAfter next stack supply) (suc number) (next-stack next supply stack) later .outcome ≡ refuse n (suc number + k) row column
+unfolding evaluateFrom
+through supply number stack next later n k row column e =
+    let at : number + suc k ≡ suc number + k = omega arith in
+    rw at at
+    (refused-later (tooMany next (make next supply stack)) number _ n (number + suc k) row column (λ q. omega arith)
+    (refused-later (check next (length (supply .draws)) (map grid stack)) number _ n (number + suc k) row column (λ q. omega arith) e))
 
-  step-from : (number : ℕ) (stack : List Table) (earlier : List Step) (step : Step) (later : List Step) (n row column : ℕ)
-      → evaluateFrom tables number stack (earlier ++ (step ∷ later)) .outcome ≡ refuse n (number + length earlier) row column
-      → let left = stackLeft tables stack earlier in orElse (check step (map grid left)) (tooMany step (make step tables left)) ≡ refused n row column
-  unfolding evaluateFrom
-  step-from number stack [] step later n row column e =
-      refused-here (check step (map grid stack)) (tooMany step (make step tables stack)) number _ n row column
-      (λ f. omega (arith, counted tables (suc number) (next-stack step stack) later .refused-at n number row column f)) (rw add-zero at e)
-  step-from number stack (next ∷ earlier) step later n row column e =
-      step-from (suc number) (next-stack next stack) earlier step later n row column (through number stack next (earlier ++ (step ∷ later)) n (length earlier) row column e)
+step-from : (supply : Supply) (number : ℕ) (stack : List Table) (earlier : List Step) (step : Step) (later : List Step) (n row column : ℕ)
+    → evaluateFrom supply number stack (earlier ++ (step ∷ later)) .outcome ≡ refuse n (number + length earlier) row column
+    → let tables = stackLeft supply stack earlier in let left = supplyLeft supply stack earlier in
+    orElse (check step (length (left .draws)) (map grid tables)) (tooMany step (make step left tables)) ≡ refused n row column
+unfolding evaluateFrom
+step-from supply number stack [] step later n row column e =
+    refused-here (check step (length (supply .draws)) (map grid stack)) (tooMany step (make step supply stack)) number _ n row column
+    (λ f. omega (arith, counted (supplyAfter step stack supply) (suc number) (next-stack step supply stack) later .refused-at n number row column f)) (rw add-zero at e)
+step-from supply number stack (next ∷ earlier) step later n row column e =
+    step-from (supplyAfter next stack supply) (suc number) (next-stack next supply stack) earlier step later n row column
+    (through supply number stack next (earlier ++ (step ∷ later)) n (length earlier) row column e)
 
-  end-from : (number : ℕ) (stack : List Table) (plan : List Step) (n row column : ℕ) → evaluateFrom tables number stack plan .outcome ≡ refuse n (number + length plan) row column
-      → checkRelease (top (stackLeft tables stack plan)) ≡ refused n row column
-  unfolding evaluateFrom
-  end-from number stack [] n row column e = refused-here fine (checkRelease (top stack)) number _ n row column not-refused (rw add-zero at e)
-  end-from number stack (next ∷ later) n row column e =
-      end-from (suc number) (next-stack next stack) later n row column (through number stack next later n (length later) row column e)
+end-from : (supply : Supply) (number : ℕ) (stack : List Table) (plan : List Step) (n row column : ℕ)
+    → evaluateFrom supply number stack plan .outcome ≡ refuse n (number + length plan) row column → checkRelease (top (stackLeft supply stack plan)) ≡ refused n row column
+unfolding evaluateFrom
+end-from supply number stack [] n row column e = refused-here fine (checkRelease (top stack)) number _ n row column not-refused (rw add-zero at e)
+end-from supply number stack (next ∷ later) n row column e =
+    end-from (supplyAfter next stack supply) (suc number) (next-stack next supply stack) later n row column (through supply number stack next later n (length later) row column e)
 
 pub release-is-last : ReleaseIsLast
 unfolding evaluate
-release-is-last plan tables table e = release-from tables 0 [] plan table e
+release-is-last plan supply table e = release-from supply 0 [] plan table e
 
 pub step-refuses : StepRefuses
 unfolding evaluate
-step-refuses tables earlier step later number row column e = step-from tables 0 [] earlier step later number row column (rw zero-add e)
+step-refuses supply earlier step later number row column e = step-from supply 0 [] earlier step later number row column (rw zero-add e)
 
 pub release-refuses : ReleaseRefuses
 unfolding evaluate
-release-refuses plan tables number row column e = end-from tables 0 [] plan number row column (rw zero-add e)
+release-refuses plan supply number row column e = end-from supply 0 [] plan number row column (rw zero-add e)

@@ -17,7 +17,7 @@ use Rattle.plan.proofs.SenseGroups.{same-keys-refl, same-keys-sym, same
 
 pub group-rows : GroupRows
 unfolding make grouped
-group-rows keys aggregate column tables stack = refl
+group-rows keys aggregate column supply stack = refl
 
 two-if : {A : Type 0} (R : A → A → Type 0) (b : Bool) (x : A) (xs : List A) → Each (R x) xs → EachTwo R xs → EachTwo R (cond b [] (x ∷ []) ++ xs)
 two-if R true x xs p q = q

@@ -6,11 +6,11 @@ use mathlib.Core.List.{List, [], _∷_, map}
 use mathlib.Core.Logic.{_⊎_, inl, inr, ⊎-elim}
 use native.Mathlib.Nat.{zero-add, add-zero}
 use native.Mathlib.Omega.{arith}
-use lib.Dec.{eqb}
+use lib.Dec.{eqb, leb}
 use lib.IntN.{pos}
 use lib.ListN.{length, getD, length-map, List·getD-map}
-use borrow.Author.Tests.{eqb-true, eq-eqb, not-true}
-use Rattle.label_discharge.specs.Discharge.{forbidsT, forbidsA}
+use borrow.Author.Tests.{eqb-true, eq-eqb, leb-true, le-leb, not-true}
+use Rattle.label_discharge.specs.Discharge.{forbidsT, forbidsA, forbidsN}
 use Rattle.label_words.specs.Word.{fieldAt}
 use Rattle.plan.specs.Apply.{operandClear, secondClear, applyRow, checkApply}
 use Rattle.plan.specs.Evaluate.{overIn, firstOver, checkRelease}
@@ -18,7 +18,8 @@ use Rattle.plan.specs.Filter.{readBy, checkFilter}
 use Rattle.plan.specs.Masks.{inMask}
 use Rattle.plan.specs.Group.{checkGroup}
 use Rattle.plan.specs.Join.{checkJoin}
-use Rattle.plan.specs.Sense.Refusals.{RefusalPlace, place, FirstAt, nowhere, at, RowByRow, NumberByNumber, InEachRow, rowIn, cellIn, NotClear, OperandColumn, FilterRefusal, JoinRefusal, GroupRefusal, SecondColumn, ApplyRefusal, ReleaseRefusal}
+use Rattle.plan.specs.Noise.{noiseRow, checkNoise}
+use Rattle.plan.specs.Sense.Refusals.{RefusalPlace, place, FirstAt, nowhere, at, RowByRow, NumberByNumber, InEachRow, rowIn, cellIn, NotClear, OperandColumn, FilterRefusal, JoinRefusal, GroupRefusal, SecondColumn, ApplyRefusal, NoiseRefusal, ReleaseRefusal}
 use Rattle.plan.specs.Steps.{check}
 use Rattle.plan.specs.Table.{Cell, Row, Table, clear, blank, noTable, cellAt, labelsOf, grid, top, second}
 use Rattle.plan.specs.Verdict.{Verdict, fine, orElse, refuseIf, firstRow, firstNotClear, notClear}
@@ -203,7 +204,7 @@ read column (Column other) c =
 
 pub filter-refusal : FilterRefusal
 unfolding check checkFilter
-filter-refusal column comparison operand stack =
+filter-refusal column comparison operand left stack =
     rw (grid-at 0 stack)
     (first-same (λ p t. let f = in-table t in (f .0, reads column operand (p .column) (f .1 .0), f .1 .1))
     (λ p f. to-table _ p (f .0) (read column operand (p .column) (f .1), f .2)) (first-unclear by-row (readBy column operand) 31 (top stack) 0))
@@ -216,7 +217,7 @@ in-rows (next ∷ rest) (suc row) column e = let h = in-rows rest row column e i
 
 pub join-refusal : JoinRefusal
 unfolding check checkJoin
-join-refusal a b stack =
+join-refusal a b draws stack =
     let left = second stack in
     let right = top stack in
     rw (grid-at 1 stack, grid-at 0 stack, length-map (left .rows) labelsOf)
@@ -250,7 +251,7 @@ first-forbidden order forbids column row labels =
 
 pub group-refusal : GroupRefusal
 unfolding check checkGroup
-group-refusal keys aggregate column stack =
+group-refusal keys aggregate column left stack =
     let table = top stack in
     let test : ℕ → List ℕ → Verdict = λ row labels. refuseIf (forbidsA (getD labels column 0)) 32 row column in
     rw (grid-at 0 stack, rows-walk test 0 (grid table))
@@ -293,7 +294,7 @@ module _ (column : ℕ) (transform : Transform) where
 
 pub apply-refusal : ApplyRefusal
 unfolding check checkApply
-apply-refusal column transform stack =
+apply-refusal column transform left stack =
     let table = top stack in
     rw (grid-at 0 stack, rows-walk (applyRow column transform) 0 (grid table))
     (first-same (λ p f.
@@ -306,6 +307,62 @@ apply-refusal column transform stack =
     (p .row, ⊎-elim (λ g. inl (record { numbered = g .0; in-row = k; fact = (g .1, rw label (g .2)) })) (λ g. inr (record { numbered = g .0; in-row = k; fact = (g .1, rw label (g .2)) })) f))
     (walked [] (applyRow column transform) (Refused column transform) (row-refused column transform) (below column transform)
     (λ r p. ⊎-elim (λ f. clash (f .fact .1) clear-allows-T) (λ f. true≢false (f .fact .1))) 0 (grid table)))
+
+-- ---- NOISE
+
+module _ (column left : ℕ) where
+  -- what fails in rows that are numbered from `first` on: one of the rows, by its label or for want of a draw
+  abbrev Fails : ℕ → List (List ℕ) → RefusalPlace → Type 0
+  Fails first rows p = (k : ℕ) × (k < length rows) × (p .row ≡ first + k) × (p .column ≡ column)
+      × (((p .number ≡ 32) × (forbidsN (getD (getD rows k []) column 0) ≡ true)) ⊎ ((p .number ≡ 37) × (left ≤ p .row)))
+
+  -- and in one row
+  abbrev Here : ℕ → List ℕ → RefusalPlace → Type 0
+  Here row labels p = At 32 row column (forbidsN (getD labels column 0) ≡ true) p ⊎ At 37 row column (leb left row ≡ true) p
+
+  noise-row : (row : ℕ) (labels : List ℕ) → FirstAt InEachRow (Here row labels) (noiseRow column left row labels)
+  noise-row row labels =
+      first-or (λ p q f g. ⊎-elim (λ l. omega (arith, f .in-row, g .in-row)) (λ l. omega (arith, f .numbered, g .numbered)))
+      (first-if in-each-row 32 (forbidsN (getD labels column 0)) row column) (first-if in-each-row 37 (leb left row) row column)
+
+  noise-rows : (first : ℕ) (rows : List (List ℕ)) → FirstAt InEachRow (Fails first rows) (firstRow (noiseRow column left) first rows)
+  noise-rows first [] = nowhere (λ p f. omega (arith, f .1))
+  noise-rows first (labels ∷ rest) =
+      first-same to from (first-or apart (noise-row first labels) (noise-rows (suc first) rest))
+    where
+      apart : (p q : RefusalPlace) → Here first labels p → Fails (suc first) rest q → InEachRow q p → ⊥
+      apart p q f g =
+          let r : p .row ≡ first = ⊎-elim (λ x. x .in-row) (λ x. x .in-row) f in
+          ⊎-elim (λ l. omega (arith, r, g .2)) (λ l. omega (arith, r, g .2))
+
+      to : (p : RefusalPlace) → Here first labels p ⊎ Fails (suc first) rest p → Fails first (labels ∷ rest) p
+      to p = ⊎-elim
+          (⊎-elim (λ x. (0, omega arith, x .in-row ∙ sym (add-zero first), x .in-column, inl (x .numbered, x .fact)))
+          (λ x. (0, omega arith, x .in-row ∙ sym (add-zero first), x .in-column, inr (x .numbered, rw (x .in-row) (leb-true left first (x .fact))))))
+          (λ f. (suc (f .0), omega (arith, f .1), omega (arith, f .2), f .3, f .4))
+
+      from : (p : RefusalPlace) → Fails first (labels ∷ rest) p → Here first labels p ⊎ Fails (suc first) rest p
+      from p f = split (f .0) (f .1) (f .2) (f .3) (f .4)
+        where
+          split : (k : ℕ) → k < length (labels ∷ rest) → p .row ≡ first + k → p .column ≡ column
+              → ((p .number ≡ 32) × (forbidsN (getD (getD (labels ∷ rest) k []) column 0) ≡ true)) ⊎ ((p .number ≡ 37) × (left ≤ p .row))
+              → Here first labels p ⊎ Fails (suc first) rest p
+          split zero h r c e = ⊎-elim
+              (λ g. inl (inl record { numbered = g .0; in-row = r ∙ add-zero first; in-column = c; fact = g .1 }))
+              (λ g. inl (inr record { numbered = g .0; in-row = r ∙ add-zero first; in-column = c; fact = le-leb left first (omega (arith, r, g .1)) })) e
+          split (suc k) h r c e = inr (k, omega (arith, h), omega (arith, r), c, e)
+
+pub noise-refusal : NoiseRefusal
+unfolding check checkNoise
+noise-refusal column left stack =
+    let table = top stack in
+    rw (grid-at 0 stack)
+    (first-same (λ p f.
+    let k : f .0 ≡ p .row = omega (arith, f .2) in
+    (rw (length-map (table .rows) labelsOf, k) at (f .1), f .3, ⊎-elim (λ g. inl (g .0, rw (← label-at table (p .row) column, ← k) (g .1))) inr (f .4)))
+    (λ p f.
+    (p .row, rw (length-map (table .rows) labelsOf) (f .0), sym (zero-add (p .row)), f .1, ⊎-elim (λ g. inl (g .0, rw (label-at table (p .row) column) (g .1))) inr (f .2)))
+    (noise-rows column left 0 (grid table)))
 
 -- ---- the release
 

@@ -73,7 +73,7 @@ matches-means a b left right = holds-means Equal (cellAt a left .value) (cellAt 
 
 pub filter-sifts : FilterSifts
 unfolding make filtered
-filter-sifts column comparison operand tables stack = passing-sifts (passes column comparison operand) (top stack .rows)
+filter-sifts column comparison operand supply stack = passing-sifts (passes column comparison operand) (top stack .rows)
 
 -- ---- JOIN
 
@@ -120,6 +120,6 @@ module _ (a b : ℕ) where
 
 pub join-sifts : JoinSifts
 unfolding make joined
-join-sifts a b tables stack =
+join-sifts a b supply stack =
     let m = joined-rows a b (second stack .rows) (top stack .rows) in
     (m .matching, m .sifted, m .same)

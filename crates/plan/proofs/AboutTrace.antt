@@ -6,8 +6,9 @@ use native.Mathlib.Omega.{arith}
 use lib.ListN.{length, drop}
 use Rattle.label_words.specs.Stages.{stageCount}
 use Rattle.plan.specs.Evaluate.{Result, ending, behind, evaluateFrom, evaluate}
-use Rattle.plan.specs.Sense.Trace.{total, stagesPresent, Figures, stackLeft, TraceLines}
-use Rattle.plan.specs.Steps.{takes, check, make, tooMany}
+use Rattle.plan.specs.Sense.Trace.{total, stagesPresent, Figures, stackLeft, supplyLeft, TraceLines}
+use Rattle.plan.specs.Steps.{takes, check, make, tooMany, supplyAfter}
+use Rattle.plan.specs.Supply.{Supply}
 use Rattle.plan.specs.Table.{Cell, Row, Table, labelsOf, grid}
 use Rattle.plan.specs.Trace.{Line, stagesIn, stagesLeft, lineOf}
 use Rattle.plan.specs.Verdict.{Verdict, fine, refused}
@@ -40,24 +41,25 @@ went-on fine fine number first later line lines e = (cc, cc)
 went-on fine (refused n row column) number first later line lines e = absurd (no-line e)
 went-on (refused n row column) w number first later line lines e = absurd (no-line e)
 
-module _ (tables : List Table) where
-  stepped : (number : ℕ) (stack : List Table) (step : Step) (later : List Step) (line : Line) (lines : List Line)
-      → evaluateFrom tables number stack (step ∷ later) .trace ≡ line ∷ lines
-      → (line ≡ lineOf step (make step tables stack)) × (evaluateFrom tables (suc number) (make step tables stack ∷ drop (takes step) stack) later .trace ≡ lines)
-  unfolding evaluateFrom
-  stepped number stack step later line lines e =
-      went-on (check step (map grid stack)) (tooMany step (make step tables stack)) number (lineOf step (make step tables stack))
-      (evaluateFrom tables (suc number) (make step tables stack ∷ drop (takes step) stack) later) line lines e
+stepped : (supply : Supply) (number : ℕ) (stack : List Table) (step : Step) (later : List Step) (line : Line) (lines : List Line)
+    → evaluateFrom supply number stack (step ∷ later) .trace ≡ line ∷ lines
+    → (line ≡ lineOf step (make step supply stack))
+    × (evaluateFrom (supplyAfter step stack supply) (suc number) (make step supply stack ∷ drop (takes step) stack) later .trace ≡ lines)
+unfolding evaluateFrom
+stepped supply number stack step later line lines e =
+    went-on (check step (length (supply .draws)) (map grid stack)) (tooMany step (make step supply stack)) number (lineOf step (make step supply stack))
+    (evaluateFrom (supplyAfter step stack supply) (suc number) (make step supply stack ∷ drop (takes step) stack) later) line lines e
 
-  lines-from : (number : ℕ) (stack : List Table) (earlier : List Step) (step : Step) (later : List Step) (lines : List Line) (line : Line) (rest : List Line)
-      → evaluateFrom tables number stack (earlier ++ (step ∷ later)) .trace ≡ lines ++ (line ∷ rest) → length lines ≡ length earlier
-      → Figures step (make step tables (stackLeft tables stack earlier)) line
-  lines-from number stack [] step later [] line rest e l = rw (stepped number stack step later line rest e .0) (figures step (make step tables stack))
-  lines-from number stack [] step later (first ∷ lines) line rest e l = absurd (omega arith)
-  lines-from number stack (next ∷ earlier) step later [] line rest e l = absurd (omega arith)
-  lines-from number stack (next ∷ earlier) step later (first ∷ lines) line rest e l =
-      lines-from (suc number) (make next tables stack ∷ drop (takes next) stack) earlier step later lines line rest (stepped number stack next _ first _ e .1) (omega arith)
+lines-from : (supply : Supply) (number : ℕ) (stack : List Table) (earlier : List Step) (step : Step) (later : List Step) (lines : List Line) (line : Line) (rest : List Line)
+    → evaluateFrom supply number stack (earlier ++ (step ∷ later)) .trace ≡ lines ++ (line ∷ rest) → length lines ≡ length earlier
+    → Figures step (make step (supplyLeft supply stack earlier) (stackLeft supply stack earlier)) line
+lines-from supply number stack [] step later [] line rest e l = rw (stepped supply number stack step later line rest e .0) (figures step (make step supply stack))
+lines-from supply number stack [] step later (first ∷ lines) line rest e l = absurd (omega arith)
+lines-from supply number stack (next ∷ earlier) step later [] line rest e l = absurd (omega arith)
+lines-from supply number stack (next ∷ earlier) step later (first ∷ lines) line rest e l =
+    lines-from (supplyAfter next stack supply) (suc number) (make next supply stack ∷ drop (takes next) stack) earlier step later lines line rest
+    (stepped supply number stack next _ first _ e .1) (omega arith)
 
 pub trace-lines : TraceLines
 unfolding evaluate
-trace-lines tables earlier step later lines line rest e l = lines-from tables 0 [] earlier step later lines line rest e l
+trace-lines supply earlier step later lines line rest e l = lines-from supply 0 [] earlier step later lines line rest e l

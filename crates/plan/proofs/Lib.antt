@@ -15,6 +15,7 @@ pub mod SenseEnd
 pub mod SenseGroups
 pub mod SenseKeep
 pub mod SenseLocked
+pub mod SenseNoise
 pub mod SenseShape
 pub mod ExamplesProof
 mod LockedLaws
@@ -24,3 +25,4 @@ mod AlikeFilter
 mod AlikeGroup
 mod AlikeJoin
 mod AlikeKeep
+mod AlikeNoise

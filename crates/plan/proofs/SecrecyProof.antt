@@ -3,24 +3,28 @@ use Prim.Native.Nat.{ℕ, suc}
 use mathlib.Core.Path.{_≡_, refl, ap, ap₂, _∙_}
 use mathlib.Core.Bool.{Bool, true}
 use mathlib.Core.List.{List, [], _∷_, map}
-use lib.ListN.{getD, List·getD-map}
+use lib.IntN.{ℤ}
+use lib.ListN.{length, getD, drop, List·getD-map}
 use Rattle.plan.specs.Evaluate.{Result, release, ending, behind, checkRelease, evaluateFrom, evaluate, firstOver}
 use Rattle.plan.specs.Locked.{appliesAt, groupsAt, anyStep}
 use Rattle.plan.specs.Scan.{scanned}
-use Rattle.plan.specs.Secrecy.{Pairwise, none, more, AlikeCells, AlikeTables, Secrecy}
-use Rattle.plan.specs.Steps.{takes, check, make, tooMany}
+use Rattle.plan.specs.Numbers.{isNoise}
+use Rattle.plan.specs.Secrecy.{Pairwise, none, more, AlikeCells, AlikeTables, AlikeSupplies, Secrecy}
+use Rattle.plan.specs.Steps.{takes, check, make, tooMany, drawsUsed, supplyAfter}
+use Rattle.plan.specs.Supply.{Supply}
 use Rattle.plan.specs.Table.{Cell, Row, Table, noTable, labelsOf, grid, top}
 use Rattle.plan.specs.Trace.{lineOf}
 use Rattle.plan.specs.Union.{united}
 use Rattle.plan.specs.Verdict.{Verdict, fine, refused, orElse, notClear, firstNotClear}
 use Rattle.plan.specs.declared.Step.{Step}
-use Rattle.plan.specs.declared.Step.the-variants.{Scan, Union, Join, Filter, Keep, Apply, Group}
+use Rattle.plan.specs.declared.Step.the-variants.{Scan, Union, Join, Filter, Keep, Apply, Group, Noise}
 use Rattle.plan.proofs.Alike.{or-fine, Tested, tested, all-clear, same-grid}
 use Rattle.plan.proofs.AlikeApply.{apply-alike}
 use Rattle.plan.proofs.AlikeFilter.{filter-alike}
 use Rattle.plan.proofs.AlikeGroup.{group-alike}
 use Rattle.plan.proofs.AlikeJoin.{join-alike}
 use Rattle.plan.proofs.AlikeKeep.{keep-alike}
+use Rattle.plan.proofs.AlikeNoise.{noise-alike}
 use Rattle.plan.proofs.Bools.{or-left, or-right}
 use Rattle.plan.proofs.LockedLaws.{clear-open}
 use Rattle.plan.proofs.Pairs.{same-length, both-append, both-drop, both-get, maps-same}
@@ -40,18 +44,27 @@ module _ (plan : List Step) where
   grid-at n stack = List·getD-map grid stack n noTable
 
   -- where a step is not refused, it makes alike tables
-  make-alike : (step : Step) → ((test : Step → Bool) → test step ≡ true → anyStep test plan ≡ true) → (ts us : List Table) → Stacks ts us
-      → (ss rs : List Table) → Stacks ss rs → check step (map grid ss) ≡ fine → AlikeTables plan (make step ts ss) (make step us rs)
+  make-alike : (step : Step) → ((test : Step → Bool) → test step ≡ true → anyStep test plan ≡ true) → (p q : Supply) → AlikeSupplies plan p q
+      → (ss rs : List Table) → Stacks ss rs → check step (length (p .draws)) (map grid ss) ≡ fine → AlikeTables plan (make step p ss) (make step q rs)
   unfolding make check scanned united
-  make-alike (Scan table) mine ts us t ss rs s e = at-place table t
-  make-alike Union mine ts us t ss rs s e = record { columns = at-place 1 s .columns; rows = both-append (at-place 1 s .rows) (at-place 0 s .rows) }
-  make-alike (Join left right) mine ts us t ss rs s e = join-alike plan left right (at-place 1 s) (at-place 0 s) (rw (grid-at 1 ss, grid-at 0 ss) at e)
-  make-alike (Filter column comparison operand) mine ts us t ss rs s e = filter-alike plan column operand comparison (at-place 0 s) (rw (grid-at 0 ss) at e)
-  make-alike (Keep mask) mine ts us t ss rs s e = keep-alike plan mask (at-place 0 s)
-  make-alike (Apply column transform) mine ts us t ss rs s e =
+  make-alike (Scan table) mine p q t ss rs s e = at-place table (t .tables)
+  make-alike Union mine p q t ss rs s e = record { columns = at-place 1 s .columns; rows = both-append (at-place 1 s .rows) (at-place 0 s .rows) }
+  make-alike (Join left right) mine p q t ss rs s e = join-alike plan left right (at-place 1 s) (at-place 0 s) (rw (grid-at 1 ss, grid-at 0 ss) at e)
+  make-alike (Filter column comparison operand) mine p q t ss rs s e = filter-alike plan column operand comparison (at-place 0 s) (rw (grid-at 0 ss) at e)
+  make-alike (Keep mask) mine p q t ss rs s e = keep-alike plan mask (at-place 0 s)
+  make-alike (Apply column transform) mine p q t ss rs s e =
       apply-alike plan column transform (λ label. mine (appliesAt label)) (at-place 0 s) (rw (grid-at 0 ss) at e)
-  make-alike (Group keys aggregate column) mine ts us t ss rs s e =
+  make-alike (Group keys aggregate column) mine p q t ss rs s e =
       group-alike plan keys column aggregate (λ label. mine (groupsAt label)) (at-place 0 s) (rw (grid-at 0 ss) at e)
+  make-alike (Noise column) mine p q t ss rs s e =
+      rw (← t .draws) (noise-alike plan column (length (p .draws)) (mine isNoise refl) (p .draws) (at-place 0 s) (rw (grid-at 0 ss) at e))
+
+  -- and leaves alike supplies: the tables on top have equally many rows
+  after-alike : (step : Step) (p q : Supply) → AlikeSupplies plan p q → (ss rs : List Table) → Stacks ss rs → AlikeSupplies plan (supplyAfter step ss p) (supplyAfter step rs q)
+  after-alike step p q t ss rs s = record {
+    tables = t .tables;
+    draws = ap₂ (λ (n : ℕ) (draws : List ℤ). drop (drawsUsed step n) draws) (same-length (at-place 0 s .rows)) (t .draws);
+  }
 
   -- alike tables have the same figures
   same-line : (step : Step) (a b : Table) → AlikeTables plan a b → lineOf step a ≡ lineOf step b
@@ -107,18 +120,19 @@ module _ (plan : List Step) where
       (same-or g (firstOver 0 (a .rows)) (firstOver 0 (b .rows)) (λ e. ap (λ (x : Table). firstOver 0 (x .rows)) (table e)) ∙ ap (λ (l : List (List ℕ)). orElse (notClear (λ column. true) 35 0 l) (firstOver 0 (b .rows))) (same-grid plan t))
       (λ e. ap (λ (x : Table). record { outcome = release x; trace = [] }) (table (or-fine g (firstOver 0 (a .rows)) e .0)))
 
-  same-from : (ts us : List Table) → Stacks ts us → (step : ℕ) (ss rs : List Table) → Stacks ss rs
+  same-from : (p q : Supply) → AlikeSupplies plan p q → (step : ℕ) (ss rs : List Table) → Stacks ss rs
       → (later : List Step) → ((test : Step → Bool) → anyStep test later ≡ true → anyStep test plan ≡ true)
-      → evaluateFrom ts step ss later ≡ evaluateFrom us step rs later
+      → evaluateFrom p step ss later ≡ evaluateFrom q step rs later
   unfolding evaluateFrom
-  same-from ts us t step ss rs s [] mine = release-same step (top ss) (top rs) (at-place 0 s)
-  same-from ts us t step ss rs s (next ∷ later) mine =
+  same-from p q t step ss rs s [] mine = release-same step (top ss) (top rs) (at-place 0 s)
+  same-from p q t step ss rs s (next ∷ later) mine =
       let grids : map grid ss ≡ map grid rs = maps-same grid (λ x y u. same-grid plan u) s in
-      ending-both (check next (map grid ss)) (check next (map grid rs)) step _ _ (ap (check next) grids) (λ e.
-      let made = make-alike next (λ test f. mine test (or-left (test next) (anyStep test later) f)) ts us t ss rs s e in
-      ending-both (tooMany next (make next ts ss)) (tooMany next (make next us rs)) step _ _ (same-limit next _ _ made) (λ _.
+      let left : length (p .draws) ≡ length (q .draws) = ap length (t .draws) in
+      ending-both (check next (length (p .draws)) (map grid ss)) (check next (length (q .draws)) (map grid rs)) step _ _ (ap₂ (check next) left grids) (λ e.
+      let made = make-alike next (λ test f. mine test (or-left (test next) (anyStep test later) f)) p q t ss rs s e in
+      ending-both (tooMany next (make next p ss)) (tooMany next (make next q rs)) step _ _ (same-limit next _ _ made) (λ _.
       ap₂ behind (same-line next _ _ made)
-      (same-from ts us t (suc step) _ _ (more made (both-drop (takes next) s)) later (λ test f. mine test (or-right (test next) (anyStep test later) f)))))
+      (same-from _ _ (after-alike next p q t ss rs s) (suc step) _ _ (more made (both-drop (takes next) s)) later (λ test f. mine test (or-right (test next) (anyStep test later) f)))))
 
 pub secrecy : Secrecy
 unfolding evaluate

@@ -6,6 +6,7 @@ use mathlib.Core.List.{List, [], _∷_, _++_, map}
 use native.Mathlib.Nat.{le-refl, le-trans}
 use native.Mathlib.Omega.{arith}
 use lib.Dec.{ltb}
+use lib.IntN.{ℤ}
 use lib.ListN.{length, getD, take, drop, length-append, length-take, length-drop, length-map, List·getD-map}
 use borrow.Author.Tests.{ltb-true, ltb-false, eqb-true}
 use Rattle.plan.specs.Apply.{appliedRow, applied}
@@ -13,6 +14,7 @@ use Rattle.plan.specs.Filter.{passing, filtered}
 use Rattle.plan.specs.Group.{groupsAfter, groupRow, grouped, anySame, sameKeys}
 use Rattle.plan.specs.Join.{matches, joinedRow, joinedTo, joinedRows, joined}
 use Rattle.plan.specs.Keep.{keptCount, keptCells, keptRow, kept}
+use Rattle.plan.specs.Noise.{noisyRows, withNoise}
 use Rattle.plan.specs.Scan.{scanned}
 use Rattle.plan.specs.Sense.{MadeShaped, Small, MadeSmall}
 use Rattle.plan.specs.Steps.{make, grows, tooMany}
@@ -22,7 +24,7 @@ use Rattle.plan.specs.Verdict.{fine}
 use Rattle.plan.specs.Widths.{columnsExist, madeColumns}
 use Rattle.plan.specs.declared.Aggregate.{Aggregate}
 use Rattle.plan.specs.declared.Step.{Step}
-use Rattle.plan.specs.declared.Step.the-variants.{Scan, Union, Join, Filter, Keep, Apply, Group}
+use Rattle.plan.specs.declared.Step.the-variants.{Scan, Union, Join, Filter, Keep, Apply, Group, Noise}
 use Rattle.plan.proofs.Alike.{if-fine}
 use Rattle.plan.proofs.Bools.{and-true}
 pub use Rattle.plan.proofs.SenseEach.{each-append, each-get, each-cond, each-map}
@@ -69,42 +71,51 @@ group-wide keys columns aggregate column [] h = absurd (omega arith)
 group-wide keys columns aggregate column (first ∷ rest) h =
     length-append (keptCells keys columns first) _ ∙ ap (λ (n : ℕ). n + 1) (kept-length keys columns first)
 
+pub noisy-wide : (column columns : ℕ) (draws : List ℤ) (rows : List Row) → Each (Wide columns) rows → Each (Wide (columns + 1)) (noisyRows column draws rows)
+noisy-wide column columns draws [] w = tt
+noisy-wide column columns draws (row ∷ rest) w = (length-append (row .cells) _ ∙ ap (λ (n : ℕ). n + 1) (w .0), noisy-wide column columns (drop 1 draws) rest (w .1))
+
+pub noisy-count : (column : ℕ) (draws : List ℤ) (rows : List Row) → length (noisyRows column draws rows) ≡ length rows
+noisy-count column draws [] = refl
+noisy-count column draws (row ∷ rest) = ap suc (noisy-count column (drop 1 draws) rest)
+
 no-table : Shaped noTable
 no-table = tt
 
 width-at : (n : ℕ) (stack : List Table) → getD (map (λ table. table .columns) stack) n 0 ≡ getD stack n noTable .columns
 width-at n stack = List·getD-map (λ table. table .columns) stack n noTable
 
-module _ (tables stack : List Table) (t : Each Shaped tables) (s : Each Shaped stack) where
+module _ (stack : List Table) (s : Each Shaped stack) where
   shaped-at : (n : ℕ) → Shaped (getD stack n noTable)
   shaped-at n = each-get Shaped stack n noTable no-table s
 
 pub made-shaped : MadeShaped
-unfolding make columnsExist madeColumns scanned united joined filtered kept applied grouped
-made-shaped (Scan table) tables stack e t s = (each-get Shaped tables table noTable no-table t, sym (width-at table tables))
-made-shaped Union tables stack e t s =
+unfolding make columnsExist madeColumns scanned united joined filtered kept applied grouped withNoise
+made-shaped (Scan table) supply stack e t s = (each-get Shaped (supply .tables) table noTable no-table t, sym (width-at table (supply .tables)))
+made-shaped Union supply stack e t s =
     let same : top stack .columns ≡ second stack .columns
     = sym (width-at 0 stack) ∙ sym (eqb-true _ _ e) ∙ width-at 1 stack in
-    (each-append (Wide (second stack .columns)) (second stack .rows) (top stack .rows) (shaped-at tables stack t s 1) (rw same at (shaped-at tables stack t s 0)), sym (width-at 1 stack))
-made-shaped (Join left right) tables stack e t s =
+    (each-append (Wide (second stack .columns)) (second stack .rows) (top stack .rows) (shaped-at stack s 1) (rw same at (shaped-at stack s 0)), sym (width-at 1 stack))
+made-shaped (Join left right) supply stack e t s =
     let b = ltb-true right _ (and-true (ltb left (getD (map (λ table. table .columns) stack) 1 0)) _ e .1) in (
-      joined-wide left right (second stack .columns) (top stack .columns) (rw (width-at 0 stack) at b) (second stack .rows) (top stack .rows) (shaped-at tables stack t s 1) (shaped-at tables stack t s 0),
+      joined-wide left right (second stack .columns) (top stack .columns) (rw (width-at 0 stack) at b) (second stack .rows) (top stack .rows) (shaped-at stack s 1) (shaped-at stack s 0),
       rw (width-at 1 stack, width-at 0 stack),
     )
-made-shaped (Filter column comparison operand) tables stack e t s = (each-pass (Wide (top stack .columns)) _ (top stack .rows) (shaped-at tables stack t s 0), sym (width-at 0 stack))
-made-shaped (Keep mask) tables stack e t s = (
-  each-map (Wide (top stack .columns)) (Wide (keptCount mask (top stack .columns))) (keptRow mask (top stack .columns)) (λ row w. kept-length mask (top stack .columns) row) (top stack .rows) (shaped-at tables stack t s 0),
+made-shaped (Filter column comparison operand) supply stack e t s = (each-pass (Wide (top stack .columns)) _ (top stack .rows) (shaped-at stack s 0), sym (width-at 0 stack))
+made-shaped (Keep mask) supply stack e t s = (
+  each-map (Wide (top stack .columns)) (Wide (keptCount mask (top stack .columns))) (keptRow mask (top stack .columns)) (λ row w. kept-length mask (top stack .columns) row) (top stack .rows) (shaped-at stack s 0),
   rw (width-at 0 stack),
 )
-made-shaped (Apply column transform) tables stack e t s = (
-  each-map (Wide (top stack .columns)) (Wide (top stack .columns + 1)) (appliedRow column transform) (λ row w. length-append (row .cells) _ ∙ ap (λ (n : ℕ). n + 1) w) (top stack .rows) (shaped-at tables stack t s 0),
+made-shaped (Apply column transform) supply stack e t s = (
+  each-map (Wide (top stack .columns)) (Wide (top stack .columns + 1)) (appliedRow column transform) (λ row w. length-append (row .cells) _ ∙ ap (λ (n : ℕ). n + 1) w) (top stack .rows) (shaped-at stack s 0),
   rw (width-at 0 stack),
 )
-made-shaped (Group keys aggregate column) tables stack e t s = (
+made-shaped (Group keys aggregate column) supply stack e t s = (
   each-map NonEmpty (Wide (keptCount keys (top stack .columns) + 1)) (groupRow keys (top stack .columns) aggregate column) (λ group h. group-wide keys (top stack .columns) aggregate column group h)
       (groupsAfter keys (top stack .columns) [] (top stack .rows)) (groups-nonempty keys (top stack .columns) [] (top stack .rows)),
   rw (width-at 0 stack),
 )
+made-shaped (Noise column) supply stack e t s = (noisy-wide column (top stack .columns) (supply .draws) (top stack .rows) (shaped-at stack s 0), rw (width-at 0 stack))
 
 -- ---- rows
 
@@ -132,13 +143,14 @@ unfolding tooMany
 grown step made g e = ltb-false 256 (length (made .rows)) (rw g at (if-fine (grows step && ltb 256 (length (made .rows))) 34 256 0 e))
 
 pub made-small : MadeSmall
-unfolding make scanned filtered kept applied grouped
-made-small (Scan table) tables stack t s e = each-get Small tables table noTable (omega arith) t
-made-small Union tables stack t s e = grown Union _ refl e
-made-small (Join left right) tables stack t s e = grown (Join left right) _ refl e
-made-small (Filter column comparison operand) tables stack t s e = le-trans (pass-fewer _ (top stack .rows)) (each-get Small stack 0 noTable (omega arith) s)
-made-small (Keep mask) tables stack t s e = rw (length-map (top stack .rows) (keptRow mask (top stack .columns))) (each-get Small stack 0 noTable (omega arith) s)
-made-small (Apply column transform) tables stack t s e = rw (length-map (top stack .rows) (appliedRow column transform)) (each-get Small stack 0 noTable (omega arith) s)
-made-small (Group keys aggregate column) tables stack t s e =
+unfolding make scanned filtered kept applied grouped withNoise
+made-small (Scan table) supply stack t s e = each-get Small (supply .tables) table noTable (omega arith) t
+made-small Union supply stack t s e = grown Union _ refl e
+made-small (Join left right) supply stack t s e = grown (Join left right) _ refl e
+made-small (Filter column comparison operand) supply stack t s e = le-trans (pass-fewer _ (top stack .rows)) (each-get Small stack 0 noTable (omega arith) s)
+made-small (Keep mask) supply stack t s e = rw (length-map (top stack .rows) (keptRow mask (top stack .columns))) (each-get Small stack 0 noTable (omega arith) s)
+made-small (Apply column transform) supply stack t s e = rw (length-map (top stack .rows) (appliedRow column transform)) (each-get Small stack 0 noTable (omega arith) s)
+made-small (Group keys aggregate column) supply stack t s e =
     rw (length-map (groupsAfter keys (top stack .columns) [] (top stack .rows)) (groupRow keys (top stack .columns) aggregate column))
     (le-trans (groups-fewer keys (top stack .columns) [] (top stack .rows)) (each-get Small stack 0 noTable (omega arith) s))
+made-small (Noise column) supply stack t s e = rw (noisy-count column (supply .draws) (top stack .rows)) (each-get Small stack 0 noTable (omega arith) s)

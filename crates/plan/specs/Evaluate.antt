@@ -2,8 +2,9 @@
 use Prim.Native.Nat.{ℕ, suc}
 use mathlib.Core.Bool.{true, not}
 use mathlib.Core.List.{List, [], _∷_, map}
-use lib.ListN.{drop}
-use Rattle.plan.specs.Steps.{takes, check, make, tooMany}
+use lib.ListN.{length, drop}
+use Rattle.plan.specs.Steps.{takes, check, make, tooMany, supplyAfter}
+use Rattle.plan.specs.Supply.{Supply}
 use Rattle.plan.specs.Table.{Cell, Row, Table, grid, top}
 use Rattle.plan.specs.Trace.{Line, lineOf}
 use Rattle.plan.specs.Verdict.{Verdict, fine, refused, orElse, refuseIf, notClear}
@@ -41,12 +42,12 @@ abbrev pub behind : Line → Result → Result
 behind line later = record { outcome = later .outcome; trace = line ∷ later .trace }
 
 -- the evaluation from step number `step` on: "The last table is released if every cell is clear and none is OVER."
-unfoldable pub evaluateFrom : List Table → ℕ → List Table → List Step → Result
-evaluateFrom tables step stack [] = ending (checkRelease (top stack)) step (record { outcome = release (top stack); trace = [] })
-evaluateFrom tables step stack (next ∷ later) =
-    let made = make next tables stack in
-    let onward = behind (lineOf next made) (evaluateFrom tables (suc step) (made ∷ drop (takes next) stack) later) in
-    ending (check next (map grid stack)) step (ending (tooMany next made) step onward)
+unfoldable pub evaluateFrom : Supply → ℕ → List Table → List Step → Result
+evaluateFrom supply step stack [] = ending (checkRelease (top stack)) step (record { outcome = release (top stack); trace = [] })
+evaluateFrom supply step stack (next ∷ later) =
+    let made = make next supply stack in
+    let onward = behind (lineOf next made) (evaluateFrom (supplyAfter next stack supply) (suc step) (made ∷ drop (takes next) stack) later) in
+    ending (check next (length (supply .draws)) (map grid stack)) step (ending (tooMany next made) step onward)
 
-unfoldable pub evaluate : List Step → List Table → Result
-evaluate plan tables = evaluateFrom tables 0 [] plan
+unfoldable pub evaluate : List Step → Supply → Result
+evaluate plan supply = evaluateFrom supply 0 [] plan

@@ -11,6 +11,8 @@ pub mod Keep
 pub mod Masks
 pub mod Apply
 pub mod Group
+pub mod Noise
+pub mod Supply
 pub mod Steps
 pub mod Widths
 pub mod Trace

@@ -1,15 +1,17 @@
--- The numbers of document 01: each step's kind, and the code of each choice.
+-- The numbers of documents 01 and 02: each step's kind, and the code of each choice.
 use Prim.Native.Nat.{ℕ}
+use mathlib.Core.Bool.{Bool}
+use lib.Dec.{eqb}
 use Rattle.plan.specs.declared.Aggregate.{Aggregate}
 use Rattle.plan.specs.declared.Aggregate.the-variants.{Count, Sum, Min, Max, Avg}
 use Rattle.plan.specs.declared.Comparison.{Comparison}
 use Rattle.plan.specs.declared.Comparison.the-variants.{Equal, Unequal, Less, AtMost, Greater, AtLeast}
 use Rattle.plan.specs.declared.Step.{Step}
-use Rattle.plan.specs.declared.Step.the-variants.{Scan, Union, Join, Filter, Keep, Apply, Group}
+use Rattle.plan.specs.declared.Step.the-variants.{Scan, Union, Join, Filter, Keep, Apply, Group, Noise}
 use Rattle.plan.specs.declared.Transform.{Transform}
 use Rattle.plan.specs.declared.Transform.the-variants.{Add, Sub, Cut, Band}
 
--- "1. SCAN" to "7. GROUP"
+-- "1. SCAN" to "7. GROUP", and "step kind 8, NOISE"
 abbrev pub kindOf : Step → ℕ
 kindOf (Scan table) = 1
 kindOf Union = 2
@@ -18,6 +20,10 @@ kindOf (Filter column comparison operand) = 4
 kindOf (Keep mask) = 5
 kindOf (Apply column transform) = 6
 kindOf (Group keys aggregate column) = 7
+kindOf (Noise column) = 8
+
+abbrev pub isNoise : Step → Bool
+isNoise step = eqb (kindOf step) 8
 
 -- "comparison (0 to 5: =, ≠, <, ≤, >, ≥)"
 abbrev pub comparisonCode : Comparison → ℕ

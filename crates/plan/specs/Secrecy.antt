@@ -4,6 +4,7 @@ use mathlib.Core.Bool.{false}
 use mathlib.Core.List.{List, [], _∷_}
 use Rattle.plan.specs.Evaluate.{evaluate}
 use Rattle.plan.specs.Locked.{locked}
+use Rattle.plan.specs.Supply.{Supply}
 use Rattle.plan.specs.Table.{Cell, Row, Table}
 use Rattle.plan.specs.declared.Step.{Step}
 
@@ -25,6 +26,11 @@ pub record AlikeTables (plan : List Step) (a b : Table) : Type 0 where
   pub columns : a .columns ≡ b .columns
   pub rows : Pairwise (AlikeRows plan) (a .rows) (b .rows)
 
+-- alike tables, and #102: "The two compared inputs use the same list."
+pub record AlikeSupplies (plan : List Step) (a b : Supply) : Type 0 where
+  pub tables : Pairwise (AlikeTables plan) (a .tables) (b .tables)
+  pub draws : a .draws ≡ b .draws
+
 -- the evaluation is the same, and with it the answer, the rows in order, a refusal's number and place, and the trace lines
 abbrev pub Secrecy : Type 0
-Secrecy = (plan : List Step) (a b : List Table) → Pairwise (AlikeTables plan) a b → evaluate plan a ≡ evaluate plan b
+Secrecy = (plan : List Step) (a b : Supply) → AlikeSupplies plan a b → evaluate plan a ≡ evaluate plan b

@@ -10,7 +10,7 @@ use Rattle.plan.specs.Steps.{takes}
 use Rattle.plan.specs.declared.Operand.{Operand}
 use Rattle.plan.specs.declared.Operand.the-variants.{Constant, Column}
 use Rattle.plan.specs.declared.Step.{Step}
-use Rattle.plan.specs.declared.Step.the-variants.{Scan, Union, Join, Filter, Keep, Apply, Group}
+use Rattle.plan.specs.declared.Step.the-variants.{Scan, Union, Join, Filter, Keep, Apply, Group, Noise}
 use Rattle.plan.specs.declared.Transform.{Transform}
 use Rattle.plan.specs.declared.Transform.the-variants.{Add, Sub, Cut, Band}
 
@@ -42,6 +42,7 @@ columnsExist (Filter column comparison operand) tables stack = ltb column (getD 
 columnsExist (Keep mask) tables stack = maskFits mask (getD stack 0 0)
 columnsExist (Apply column transform) tables stack = ltb column (getD stack 0 0) && transformColumnExists transform (getD stack 0 0)
 columnsExist (Group keys aggregate column) tables stack = maskFits keys (getD stack 0 0) && ltb column (getD stack 0 0)
+columnsExist (Noise column) tables stack = ltb column (getD stack 0 0)
 
 -- the columns of the table that a step makes
 unfoldable pub madeColumns : Step → List ℕ → List ℕ → ℕ
@@ -52,6 +53,7 @@ madeColumns (Filter column comparison operand) tables stack = getD stack 0 0
 madeColumns (Keep mask) tables stack = keptCount mask (getD stack 0 0)
 madeColumns (Apply column transform) tables stack = getD stack 0 0 + 1
 madeColumns (Group keys aggregate column) tables stack = keptCount keys (getD stack 0 0) + 1
+madeColumns (Noise column) tables stack = getD stack 0 0 + 1
 
 -- ".. over 8 columns"
 abbrev pub placed : Step → List ℕ → List ℕ → Bool

@@ -34,7 +34,7 @@ pub enum Aggregate {
     Avg,
 }
 
-// The seven steps. In a mask, bit i stands for column i.
+// The eight steps. In a mask, bit i stands for column i.
 pub enum Step {
     Scan {
         table: usize,
@@ -59,6 +59,9 @@ pub enum Step {
     Group {
         keys: u32,
         aggregate: Aggregate,
+        column: usize,
+    },
+    Noise {
         column: usize,
     },
 }

@@ -11,7 +11,7 @@ use Rattle.plan.specs.declared.Comparison.the-variants.{Equal, Unequal, Less, A
 use Rattle.plan.specs.declared.Operand.{Operand}
 use Rattle.plan.specs.declared.Operand.the-variants.{Constant, Column}
 use Rattle.plan.specs.declared.Step.{Step}
-use Rattle.plan.specs.declared.Step.the-variants.{Scan, Union, Join, Filter, Keep, Apply, Group}
+use Rattle.plan.specs.declared.Step.the-variants.{Scan, Union, Join, Filter, Keep, Apply, Group, Noise}
 use Rattle.plan.specs.declared.Transform.the-variants.{Add, Sub, Cut, Band}
 use Rattle.records.specs.declared.Fields.{Fields}
 use Rattle.records.specs.declared.Found.{Found}
@@ -65,7 +65,7 @@ applyBy b f =
     (cond (eqb b 2) (when (amountFits 6 f) (Apply (f .a) (Cut (f .constant))))
     (cond (eqb b 3) (when (amountFits (2 ^ 47 - 1) f) (Apply (f .a) (Band (signedOf (f .constant))))) found.Nothing)))
 
--- the step of each kind; "17: kind, a choice, a constant, a zero mask in KEEP, or an unused field .. not zero"
+-- the step of each kind (8 by #102); "17: kind, a choice, a constant, a zero mask in KEEP, or an unused field .. not zero"
 abbrev pub byKind : ℕ → Fields → Found
 byKind kind f =
     cond (eqb kind 1) (when (zeros (f .b + f .c + f .d) (f .constant)) (Scan (f .a)))
@@ -74,7 +74,8 @@ byKind kind f =
     (cond (eqb kind 4) (when (ltb (f .b) 6 && operandWritten f) (Filter (f .a) (comparisonOf (f .b)) (operandOf f)))
     (cond (eqb kind 5) (when (not (eqb (f .a) 0) && zeros (f .b + f .c + f .d) (f .constant)) (Keep (f .a)))
     (cond (eqb kind 6) (applyBy (f .b) f)
-    (cond (eqb kind 7) (when (ltb (f .b) 5 && zeros (f .d) (f .constant)) (Group (f .a) (aggregateOf (f .b)) (f .c))) found.Nothing))))))
+    (cond (eqb kind 7) (when (ltb (f .b) 5 && zeros (f .d) (f .constant)) (Group (f .a) (aggregateOf (f .b)) (f .c)))
+    (cond (eqb kind 8) (when (zeros (f .b + f .c + f .d) (f .constant)) (Noise (f .a))) found.Nothing)))))))
 
 -- ".. or one of the three bytes not zero"
 unfoldable pub stepOf : Fields → Found

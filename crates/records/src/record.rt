@@ -193,6 +193,10 @@ fn step_of(f: Fields) -> Found
         }
         6 => apply_of(f),
         7 => group_of(f),
+        8 => when(
+            zeros(f.b + f.c + f.d, f.constant),
+            Step::Noise { column: f.a },
+        ),
         _ => Found::Nothing,
     }
 }

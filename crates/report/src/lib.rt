@@ -4,23 +4,23 @@ mod printed;
 
 ghost use Rattle.report.specs.promises.Number.{CallNumber};
 
-// Runs a container over slices of its own, prints what the monitor makes of it, and answers the number that a call of `cilunovay_run` with
+// Runs a container, with draws, over slices of its own, prints what the monitor makes of it, and answers the number that a call of `cilunovay_run` with
 // slices of enough elements answers. What it prints is tested and not proved.
-pub fn report(container: &[u8]) -> u32
-    ensures { λ r. ⌜ CallNumber (now (container .entry)) r ⌝ }
+pub fn report(container: &[u8], draws: &[i64]) -> u32
+    ensures { λ r. ⌜ CallNumber (now (container .entry)) (now (draws .entry)) r ⌝ }
 {
-    run(container, false)
+    run(container, draws, false)
 }
 
 // The same, and prints the text of a release alone; of a refusal it prints the X line, on standard error.
-pub fn export(container: &[u8]) -> u32
-    ensures { λ r. ⌜ CallNumber (now (container .entry)) r ⌝ }
+pub fn export(container: &[u8], draws: &[i64]) -> u32
+    ensures { λ r. ⌜ CallNumber (now (container .entry)) (now (draws .entry)) r ⌝ }
 {
-    run(container, true)
+    run(container, draws, true)
 }
 
-fn run(container: &[u8], as_text: bool) -> u32
-    ensures { λ r. ⌜ CallNumber (now (container .entry)) r ⌝ }
+fn run(container: &[u8], draws: &[i64], as_text: bool) -> u32
+    ensures { λ r. ⌜ CallNumber (now (container .entry)) (now (draws .entry)) r ⌝ }
 {
     let mut values = [0i64; 8192];
     let mut labels = [0u32; 8192];
@@ -30,6 +30,7 @@ fn run(container: &[u8], as_text: bool) -> u32
     let mut answer = [0u64; 4];
     let number = cilunovay::cilunovay_run(
         container,
+        draws,
         &mut values,
         &mut labels,
         &mut output,

@@ -11,6 +11,7 @@ use lib.ListN.{length, take, drop, length-map, length-take}
 use lib.Seq.{take-all}
 use borrow.Author.Tests.{leb-true, ltb-true, le-leb}
 use Rattle.cells.specs.promises.Cells.{cellsOf}
+use Rattle.plan.specs.Supply.{supplied}
 use Rattle.plan.specs.Table.{flat, Cell, rowsOf}
 use Rattle.cells.specs.promises.Work.{Work, work, room, Kept}
 use Rattle.cells.specs.promises.Written.{Written, CellsWritten}
@@ -156,23 +157,23 @@ module _ (bytes : List ℕ) (table : ℕ) (w : Work) (stack : Stack) (f : ScanFi
         labels-past = past-any wl room (omega (arith, few, count, length-map cells (λ cell. cell .label)));
       }
 
-  made-is : make (Scan table) (tablesOf bytes) (stackIn w stack) ≡ record { columns = columnsOf part; rows = rowsOf (columnsOf part) (rowCount part) cells }
+  made-is : (draws : List ℤ) → make (Scan table) (supplied (tablesOf bytes) draws) (stackIn w stack) ≡ record { columns = columnsOf part; rows = rowsOf (columnsOf part) (rowCount part) cells }
   unfolding make scanned tableOf
-  made-is = table-is bytes table (f .exists)
+  made-is draws = table-is bytes table (f .exists)
 
-  nothing-refused : verdict (Scan table) (tablesOf bytes) (stackIn w stack) ≡ fine
+  nothing-refused : (draws : List ℤ) → verdict (Scan table) (supplied (tablesOf bytes) draws) (stackIn w stack) ≡ fine
   unfolding check tooMany
-  nothing-refused = refl
+  nothing-refused draws = refl
 
   all-cells : flat (rowsOf (columnsOf part) (rowCount part) cells) ≡ cells
   all-cells = flat-rows (columnsOf part) (rowCount part) cells ∙ take-all (rowCount part * columnsOf part) cells (omega (arith, cells-count part 0 (cellCount part)))
 
-  pub scan-made : {fit : Bool} → fit ≡ true → {shape : Shape} {stack′ : Stack} {w′ : Work} → shape ≡ shapeOf part → stack′ ≡ withTable stack (stack .depth) (shape .columns) (shape .rows) → w′ ≡ after
-      → DoneWhere fit (Scan table) (tablesOf bytes) w stack (record { answer = Made; stack = stack′ }) w′
+  pub scan-made : {fit : Bool} → fit ≡ true → {shape : Shape} {stack′ : Stack} {w′ : Work} → shape ≡ shapeOf part → stack′ ≡ withTable stack (stack .depth) (shape .columns) (shape .rows) → w′ ≡ after → (draws : List ℤ)
+      → DoneWhere fit (Scan table) (supplied (tablesOf bytes) draws) w stack (record { answer = Made; stack = stack′ }) w′
   unfolding shapeOf
-  scan-made t shaped stacked left =
-      rw (left, stacked, shaped) (written-done (Scan table) (tablesOf bytes) w stack t (stack .depth) (columnsOf part) (rowCount part) (rowsOf (columnsOf part) (rowCount part) cells) after (f .is-ready)
-      nothing-refused (f .room-left) (sym (add-zero (stack .depth))) made-is (f .narrow) (f .short) (sym (rows-length (columnsOf part) (rowCount part) cells))
+  scan-made t shaped stacked left draws =
+      rw (left, stacked, shaped) (written-done (Scan table) (supplied (tablesOf bytes) draws) w stack t (stack .depth) (columnsOf part) (rowCount part) (rowsOf (columnsOf part) (rowCount part) cells) after (f .is-ready)
+      (nothing-refused draws) (f .room-left) (sym (add-zero (stack .depth))) (made-is draws) (f .narrow) (f .short) (sym (rows-length (columnsOf part) (rowCount part) cells))
       (rows-wide (columnsOf part) (rowCount part) cells (omega (arith, cells-count part 0 (cellCount part)))) (rw all-cells written-cells) kept)
 
 pub cells-differ : {shape : Shape} → reading.DoesNotFit ≡ reading.Cells shape → ⊥

@@ -1,11 +1,14 @@
 // SCAN: a table of the container, pushed.
 ghost use mathlib.Core.Path.{_≡_};
 ghost use mathlib.Core.Bool.{true};
+ghost use mathlib.Core.List.{List};
 ghost use Prim.Native.Nat.{_+_, _^_, _<_};
+ghost use lib.IntN.{ℤ};
 ghost use lib.ListN.{length};
 ghost use Rattle.cells.specs.promises.Work.{work};
 ghost use Rattle.container.specs.Contents.{tablesOf};
 ghost use Rattle.memory.specs.promises.Steps.{DoneWhere};
+ghost use Rattle.plan.specs.Supply.{supplied};
 ghost use Rattle.plan.specs.declared.Step.the-variants.{Scan};
 ghost use Rattle.scan.specs.promises.Scanning as spec;
 use memory::SLOT;
@@ -22,9 +25,9 @@ pub fn scan(
     stack: Stack,
     table: usize,
 ) -> Stepped
-    ensures { λ r. ⌜ DoneWhere (spec.scanFits (now (container .entry)) table (length (now (values .entry)))
-        (length (now (labels .entry))) stack) (Scan table) (tablesOf (now (container .entry)))
-        (work (now (values .entry)) (now (labels .entry))) stack r (work (now (values .exit)) (now (labels .exit))) ⌝ }
+    ensures { λ r. ⌜ ((draws : List ℤ) → DoneWhere (spec.scanFits (now (container .entry)) table (length (now (values .entry)))
+        (length (now (labels .entry))) stack) (Scan table) (supplied (tablesOf (now (container .entry))) draws)
+        (work (now (values .entry)) (now (labels .entry))) stack r (work (now (values .exit)) (now (labels .exit)))) ⌝ }
 {
     if !scan_fits(container, values.len(), labels.len(), stack, table) {
         return Stepped {

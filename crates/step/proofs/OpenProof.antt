@@ -71,7 +71,7 @@ module _ (stack : Stack) (one other : Work) (r : Ready (length (one .values)) (l
       either false b lower = lower (rw b at t)
 
 pub only-free-open : OnlyFreeOpen
-only-free-open fit step tables before stack done done′ after after′ d e t v =
+only-free-open fit step supply before stack done done′ after after′ d e t v =
     let m = d .made t v in
     let n = e .made t v in
     let same : done .stack ≡ done′ .stack = m .stack-is ∙ sym (n .stack-is) in

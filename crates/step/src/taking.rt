@@ -5,15 +5,16 @@ use memory::Stack;
 use memory::Stepped;
 use plan::Step;
 
-// Takes a step on the stack in work memory.
+// Takes a step on the stack in work memory, with the draws that are left.
 pub fn take_step(
     container: &[u8],
+    draws: &[i64],
     values: &mut [i64],
     labels: &mut [u32],
     stack: Stack,
     step: Step,
 ) -> Stepped
-    ensures { λ r. ⌜ Taken (now (container .entry)) step (work (now (values .entry)) (now (labels .entry))) stack r
+    ensures { λ r. ⌜ Taken (now (container .entry)) (now (draws .entry)) step (work (now (values .entry)) (now (labels .entry))) stack r
         (work (now (values .exit)) (now (labels .exit))) ⌝ }
 {
     match step {
@@ -32,5 +33,6 @@ pub fn take_step(
             aggregate,
             column,
         } => group::group(values, labels, stack, keys, aggregate, column),
+        Step::Noise { column } => noise::noise(draws, values, labels, stack, column),
     }
 }

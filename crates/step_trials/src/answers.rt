@@ -9,6 +9,7 @@ use crate::printing::given;
 use crate::printing::place;
 use crate::printing::print_step;
 use crate::printing::text;
+use crate::printing::with;
 use memory::Stack;
 use plan::Step;
 use step::take_step;
@@ -58,6 +59,10 @@ fn within(count: usize, length: usize) -> usize
 fn answer(v: &mut [i64], l: &mut [u32], c: &[u8], stack: Stack, case: Case) {
     match case {
         Case::Step(step) => take(v, l, c, stack, step),
+        Case::Noise(column, draws, a, b, c, d) => {
+            let numbers = [a, b, c, d];
+            draw(v, l, stack, column, &numbers, draws);
+        }
         Case::Other(shape, a, b) => other(v, l, c, stack, shape, a, b),
     }
 }
@@ -78,7 +83,24 @@ fn other(v: &mut [i64], l: &mut [u32], c: &[u8], stack: Stack, shape: usize, a: 
 fn take(v: &mut [i64], l: &mut [u32], c: &[u8], stack: Stack, step: Step) {
     print_step(step, c.len());
     given(v, l, stack);
-    let stepped = take_step(c, v, l, stack, step);
+    let none = [0i64; 0];
+    let stepped = take_step(c, &none, v, l, stack, step);
+    after(v, l, stepped);
+}
+
+// NOISE with so many of these draws left.
+fn draw(v: &mut [i64], l: &mut [u32], stack: Stack, column: usize, numbers: &[i64], draws: usize) {
+    let count = within(draws, numbers.len());
+    noise(v, l, stack, column, &numbers[0..count]);
+}
+
+fn noise(v: &mut [i64], l: &mut [u32], stack: Stack, column: usize, draws: &[i64]) {
+    let step = Step::Noise { column };
+    let container = [0u8; 0];
+    print_step(step, 0);
+    with(draws);
+    given(v, l, stack);
+    let stepped = take_step(&container, draws, v, l, stack, step);
     after(v, l, stepped);
 }
 

@@ -4,23 +4,27 @@ ghost use Rattle.step_trials.specs.Words.{numberOf, partOf};
 use crate::printing::unreadable;
 use crate::reading::NONE;
 use crate::reading::bits;
+use crate::reading::count;
 use crate::reading::number;
 use crate::reading::part;
 use crate::reading::place;
 use crate::reading::small;
 use crate::tables::decode;
 use crate::tables::run;
+use check::same;
 use plan::Aggregate;
 use plan::Comparison;
 use plan::Operand;
 use plan::Step;
 use plan::Transform;
+use std::num::wrapping_add_usize;
 use value::pattern::signed;
 
-// A step; or, by the number of its shape, a container, stages left, first OVER, a trace line, so many values from a place on as an output, or
-// memory set to zero.
+// A step; a NOISE of a column, with how many draws and these, at most four; or, by the number of its shape, a container, stages left, first
+// OVER, a trace line, so many values from a place on as an output, or memory set to zero.
 pub enum Case {
     Step(Step),
+    Noise(usize, usize, i64, i64, i64, i64),
     Other(usize, usize, usize),
 }
 
@@ -28,7 +32,7 @@ pub enum Case {
 pub fn read(line: &[u8], container: &[u8]) {
     let head = part(line, b':', 0);
     let shapes =
-        b"UNION\nJOIN # = #\nKEEP #\nFILTER # * column #\nAPPLY # * column #\nFILTER # * *\nAPPLY # cut #\nAPPLY # * *\nGROUP # * #\nSCAN # of # bytes\ncontainer *\nstages left\nfirst OVER\nline #\noutput of # from #\nclear#\n";
+        b"UNION\nJOIN # = #\nKEEP #\nFILTER # * column #\nAPPLY # * column #\nFILTER # * *\nAPPLY # cut #\nAPPLY # * *\nGROUP # * #\nSCAN # of # bytes\ncontainer *\nstages left\nfirst OVER\nline #\noutput of # from #\nclear#\nNOISE # with *\n";
     let shape = place(b'\n', head, shapes);
     let a = field(head, 1);
     let b = field(head, 3);
@@ -58,7 +62,36 @@ pub fn read(line: &[u8], container: &[u8]) {
             part(line, b' ', 1).len() / 2,
             Case::Other(shape, 0, 0),
         ),
+        16 => noise(line, a, part(head, b' ', 3)),
         _ => other(line, head, shape),
+    }
+}
+
+// NOISE with the draws that a word has, parted by commas, or with none.
+fn noise(line: &[u8], column: usize, word: &[u8]) {
+    let draws = if same(word, b"none") {
+        0
+    } else {
+        wrapping_add_usize(count(word, b','), 1)
+    };
+    let a = draw(word, draws, 0);
+    let b = draw(word, draws, 1);
+    let c = draw(word, draws, 2);
+    let d = draw(word, draws, 3);
+    if (4 < draws) | (a == NONE) | (b == NONE) | (c == NONE) | (d == NONE) {
+        unreadable(line);
+        return;
+    }
+    let case = Case::Noise(column, draws, signed(a), signed(b), signed(c), signed(d));
+    run(line, line, 0, case);
+}
+
+// The bits of one of so many draws, and 0 past the last.
+fn draw(word: &[u8], draws: usize, index: usize) -> u64 {
+    if index < draws {
+        bits(part(word, b',', index))
+    } else {
+        0
     }
 }
 

@@ -23,7 +23,7 @@ pub fn unreadable(line: &[u8]) {
 
 // A step with its fields; SCAN has so many bytes of a container.
 pub fn print_step(step: Step, bytes: usize) {
-    let names = b" SCAN UNION JOIN FILTER KEEP APPLY GROUP";
+    let names = b" SCAN UNION JOIN FILTER KEEP APPLY GROUP NOISE";
     text(part(names, b' ', kinds::kind_of(step) as usize));
     match step {
         Step::Scan { table } => {
@@ -61,6 +61,7 @@ pub fn print_step(step: Step, bytes: usize) {
             summary(aggregate);
             field(column);
         }
+        Step::Noise { column } => field(column),
     }
 }
 
@@ -111,6 +112,29 @@ fn second(operand: Operand) {
     }
 }
 
+// The draws of a NOISE.
+pub fn with(draws: &[i64]) {
+    text(b" with");
+    if draws.len() == 0 {
+        text(b" none");
+        return;
+    }
+    let mut i = 0;
+    while i < draws.len() {
+        draw(i, draws[i]);
+        i += 1;
+    }
+}
+
+fn draw(index: usize, draw: i64) {
+    if index == 0 {
+        text(b" ");
+    } else {
+        text(b",");
+    }
+    number(draw);
+}
+
 // What a case is given: the values and labels that are lent, where they are too few, and its tables.
 pub fn given(values: &[i64], labels: &[u32], stack: Stack) {
     text(b":");
@@ -147,6 +171,7 @@ fn refused(refusal: Refusal) {
         Refusal::Forbidden(row, column) => numbered(32, row, column),
         Refusal::OperandNotClear(row, column) => numbered(33, row, column),
         Refusal::TooMany => numbered(34, 256, 0),
+        Refusal::NoDraw(row, column) => numbered(37, row, column),
     }
 }
 
@@ -255,10 +280,13 @@ fn value(value: i64) {
         text(b" OVER");
         return;
     }
+    text(b" ");
+    number(value);
+}
+
+fn number(value: i64) {
     if value < 0 {
-        text(b" -");
-    } else {
-        text(b" ");
+        text(b"-");
     }
     io::print_decimal(STDOUT_FILENO, value::pattern::magnitude(value));
 }

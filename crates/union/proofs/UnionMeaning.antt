@@ -19,6 +19,7 @@ use Rattle.memory.specs.declared.StepAnswer.the-variants.{Made, Refused}
 use Rattle.memory.specs.promises.Stack.{Ready, slot, stackIn, widthsTo, withTable, liveTable, rowsIn}
 use Rattle.memory.specs.promises.Steps.{verdict, fits, fitsIn, Done}
 use Rattle.plan.specs.Steps.{check, make, tooMany}
+use Rattle.plan.specs.Supply.{Supply}
 use Rattle.plan.specs.Table.{Row, Table, rowsOf, flat, Each}
 use Rattle.plan.specs.Union.{united}
 use Rattle.plan.specs.Verdict.{refuseIf}
@@ -84,7 +85,7 @@ itself list at k h =
       is = sym (rw (l, ← drop-drop k at list) (ap (λ (t : List _). take at list ++ t) (take-append-drop k (drop at list)) ∙ take-append-drop at list));
     }
 
-module _ (tables : List Table) (w : Work) (stack : Stack) {left right : LiveTable} {width : ℕ} (t : fitsIn Union tables w stack ≡ true)
+module _ (supply : Supply) (w : Work) (stack : Stack) {left right : LiveTable} {width : ℕ} (t : fitsIn Union supply w stack ≡ true)
     (f : UnionFits (length (w .values)) (length (w .labels)) stack left right width) where
   abbrev above : List Row
   above = rowsOf width (left .rows) (drop (left .at) (cellsIn w))
@@ -92,19 +93,19 @@ module _ (tables : List Table) (w : Work) (stack : Stack) {left right : LiveTabl
   abbrev below : List Row
   below = rowsOf width (right .rows) (drop (right .at) (cellsIn w))
 
-  made-is : make Union tables (stackIn w stack) ≡ record { columns = width; rows = above ++ below }
+  made-is : make Union supply (stackIn w stack) ≡ record { columns = width; rows = above ++ below }
   unfolding make united
-  made-is = ap (make Union tables) (stack-two w (f .upper) (f .lower)) ∙ rw (f .left-wide, f .right-wide)
+  made-is = ap (make Union supply) (stack-two w (f .upper) (f .lower)) ∙ rw (f .left-wide, f .right-wide)
 
   rows-made : length (above ++ below) ≡ left .rows + right .rows
   rows-made = length-append above below ∙ ap₂ _+_ (rows-length width (left .rows) (drop (left .at) (cellsIn w))) (rows-length width (right .rows) (drop (right .at) (cellsIn w)))
 
-  union-verdict : verdict Union tables (stackIn w stack) ≡ refuseIf (ltb 256 (left .rows + right .rows)) 34 256 0
+  union-verdict : verdict Union supply (stackIn w stack) ≡ refuseIf (ltb 256 (left .rows + right .rows)) 34 256 0
   unfolding check tooMany
   union-verdict = ap (λ (table : Table). refuseIf (ltb 256 (length (table .rows))) 34 256 0) made-is ∙ ap (λ (n : ℕ). refuseIf (ltb 256 n) 34 256 0) rows-made
 
-  pub union-many : 256 < left .rows + right .rows → Done Union tables w stack (record { answer = Refused TooMany; stack = stack }) w
-  union-many h = unchanged-done Union tables w stack t TooMany (union-verdict ∙ rw (lt-ltb 256 (left .rows + right .rows) h))
+  pub union-many : 256 < left .rows + right .rows → Done Union supply w stack (record { answer = Refused TooMany; stack = stack }) w
+  union-many h = unchanged-done Union supply w stack t TooMany (union-verdict ∙ rw (lt-ltb 256 (left .rows + right .rows) h))
 
   -- the right rows, and the place behind the left ones
   abbrev from : ℕ
@@ -129,7 +130,7 @@ module _ (tables : List Table) (w : Work) (stack : Stack) {left right : LiveTabl
   in-labels = down lower-place (omega (arith, reach, f .is-ready .labels-room))
 
   pub union-made : left .rows + right .rows ≤ 256
-      → Done Union tables w stack (record { answer = Made; stack = withTable stack (left .slot) width (left .rows + right .rows) }) (movedIn from to count w)
+      → Done Union supply w stack (record { answer = Made; stack = withTable stack (left .slot) width (left .rows + right .rows) }) (movedIn from to count w)
   union-made h =
       let m = cellsIn w in
       let long : room ≤ length m = cells-length w room (f .is-ready .values-room) (f .is-ready .labels-room) in
@@ -137,7 +138,7 @@ module _ (tables : List Table) (w : Work) (stack : Stack) {left right : LiveTabl
       let copied = then-copied (itself m (left .at) (left .rows * width) (omega (arith, long, lower-place, reach))) from to count (omega (arith, part)) lower-place (omega (arith, reach, long)) in
       let cells : flat (above ++ below) ≡ take (left .rows * width) (drop (left .at) m) ++ take count (drop from m)
       = flat-append above below ∙ ap₂ _++_ (flat-rows width (left .rows) (drop (left .at) m)) (flat-rows width (right .rows) (drop from m)) in
-      written-done Union tables w stack t (left .slot) width (left .rows + right .rows) (above ++ below) (movedIn from to count w) (f .is-ready)
+      written-done Union supply w stack t (left .slot) width (left .rows + right .rows) (above ++ below) (movedIn from to count w) (f .is-ready)
       (union-verdict ∙ rw (le-ltb 256 (left .rows + right .rows) h)) (f .lower .low) (f .lower .depth-is) made-is (f .narrow) h (sym rows-made)
       (each-append (Wide width) above below (rows-wide width (left .rows) (drop (left .at) m) (simp length-drop (omega (arith, long, lower-place, reach)))) (rows-wide width (right .rows) (drop from m) (simp length-drop (omega (arith, long, reach)))))
       (rw (cells, cells-moved w in-values in-labels, ← f .left-at) copied) (kept-moved in-values in-labels (omega (arith, reach, lower-place)) (kept-none w))

@@ -1,7 +1,6 @@
 // UNION: the rows of the table below the top, and then those of the top table.
-ghost use mathlib.Core.List.{List};
 ghost use Rattle.plan.specs.declared.Step.the-variants.{Union};
-ghost use Rattle.plan.specs.Table.{Table};
+ghost use Rattle.plan.specs.Supply.{Supply};
 ghost use Rattle.cells.specs.promises.Work.{work};
 ghost use Rattle.memory.specs.promises.Steps.{Done};
 use memory::Refusal;
@@ -13,8 +12,8 @@ use widths::Width;
 
 // Puts the rows of the top table behind those of the table below it.
 pub fn union(values: &mut [i64], labels: &mut [u32], stack: Stack) -> Stepped
-    ensures { λ r. ⌜ ((tables : List Table)
-        → Done Union tables (work (now (values .entry)) (now (labels .entry))) stack r (work (now (values .exit)) (now (labels .exit)))) ⌝ }
+    ensures { λ r. ⌜ ((supply : Supply)
+        → Done Union supply (work (now (values .entry)) (now (labels .entry))) stack r (work (now (values .exit)) (now (labels .exit)))) ⌝ }
 {
     let Width::Columns(columns) = memory::fit(values.len(), labels.len(), stack, Step::Union) else {
         return Stepped {

@@ -13,15 +13,17 @@ use Rattle.plan.specs.Join.{matches, joinedRow, joinedTo, joinedRows, joined}
 use Rattle.plan.specs.Keep.{keptRow, kept}
 use Rattle.plan.specs.Scan.{scanned}
 use Rattle.plan.specs.Steps.{make}
+use Rattle.plan.specs.Supply.{Supply}
 use Rattle.plan.specs.Table.{Cell, Row, Table, noTable, top, second, Each}
 use Rattle.plan.specs.Union.{united}
 use Rattle.plan.specs.declared.Step.{Step}
-use Rattle.plan.specs.declared.Step.the-variants.{Scan, Union, Join, Filter, Keep, Apply, Group}
+use Rattle.plan.specs.declared.Step.the-variants.{Scan, Union, Join, Filter, Keep, Apply, Group, Noise}
 use Rattle.value.specs.Range.{inRange}
 use Rattle.apply.proofs.Laws.{applied-labelled}
 use Rattle.accepted.proofs.AcceptedTables.{tables-sound}
 use Rattle.demands.proofs.Widths.{each-take, each-drop, each-weaker}
 use Rattle.group.proofs.Laws.{grouped-labelled}
+use Rattle.noise.proofs.Laws.{noisy-labelled}
 use Rattle.cells.proofs.LabelledTables.{top-labelled, kept-formed, passing-formed}
 use Rattle.plan.proofs.SenseShape.{each-append, each-get, each-cond, each-map}
 use Rattle.demands.specs.Given.{Given, checkGiven, prepared}
@@ -49,19 +51,20 @@ joined-rows a b [] rights l r = tt
 joined-rows a b (left ∷ rest) rights l r =
     each-append LabelledRow (joinedTo a b left rights) (joinedRows a b rest rights) (joined-to a b left rights (l .0) r) (joined-rows a b rest rights (l .1) r)
 
-pub make-labelled : (step : Step) (tables stack : List Table) → Each Labelled tables → Each Labelled stack → Labelled (make step tables stack)
+pub make-labelled : (step : Step) (supply : Supply) (stack : List Table) → Each Labelled (supply .tables) → Each Labelled stack → Labelled (make step supply stack)
 unfolding make scanned united joined filtered kept
-make-labelled (Scan table) tables stack t s = each-get Labelled tables table noTable tt t
-make-labelled Union tables stack t s =
+make-labelled (Scan table) supply stack t s = each-get Labelled (supply .tables) table noTable tt t
+make-labelled Union supply stack t s =
     each-append LabelledRow (second stack .rows) (top stack .rows) (second-labelled stack s) (top-labelled stack s)
-make-labelled (Join left right) tables stack t s =
+make-labelled (Join left right) supply stack t s =
     joined-rows left right (second stack .rows) (top stack .rows) (second-labelled stack s) (top-labelled stack s)
-make-labelled (Filter column comparison operand) tables stack t s =
+make-labelled (Filter column comparison operand) supply stack t s =
     passing-formed (passes column comparison operand) (top stack .rows) (top-labelled stack s)
-make-labelled (Keep mask) tables stack t s =
+make-labelled (Keep mask) supply stack t s =
     each-map LabelledRow LabelledRow (keptRow mask (top stack .columns)) (kept-formed mask (top stack .columns)) (top stack .rows) (top-labelled stack s)
-make-labelled (Apply column transform) tables stack t s = applied-labelled column transform (top stack) (top-labelled stack s)
-make-labelled (Group keys aggregate column) tables stack t s = grouped-labelled keys aggregate column (top stack) (top-labelled stack s)
+make-labelled (Apply column transform) supply stack t s = applied-labelled column transform (top stack) (top-labelled stack s)
+make-labelled (Group keys aggregate column) supply stack t s = grouped-labelled keys aggregate column (top stack) (top-labelled stack s)
+make-labelled (Noise column) supply stack t s = noisy-labelled column (supply .draws) (top stack) (top-labelled stack s)
 
 -- an accepted container's tables
 abbrev SoundCell : Cell → Type 0

@@ -4,7 +4,7 @@ use mathlib.Core.Path.{_≡_, sym, ap, subst, _∙_}
 use mathlib.Core.List.{List}
 use native.Mathlib.Omega.{arith}
 use lib.IntN.{ℤ}
-use lib.ListN.{length}
+use lib.ListN.{length, drop}
 use Rattle.input.specs.Verdict.{accepted}
 use Rattle.layout.specs.Layout.{partOf}
 use Rattle.cells.specs.promises.Work.{Work, work, room}
@@ -22,13 +22,13 @@ use Rattle.records.specs.declared.Found.the-variants as found
 use Rattle.step.specs.promises.Taking.{Taken}
 use Rattle.tally.specs.promises.Lines.{withLine}
 use Rattle.walk.specs.promises.Steady.{Steady}
-use Rattle.walk.specs.promises.Walk.{stepNumber}
+use Rattle.walk.specs.promises.Walk.{stepNumber, leftGiven}
 use Rattle.accepted.proofs.AcceptedPlan.{steps-counted, steps-found}
 use Rattle.walk.proofs.TakenMeaning.{taken-done}
 use Rattle.memory.proofs.Finish.{says-is}
 use Rattle.memory.specs.declared.StepAnswer.the-variants.{Made}
 use Rattle.memory.proofs.Stacks.{is-ready, stack-length}
-use Rattle.demands.specs.Given.{Given, checkGiven, planGiven, prepared}
+use Rattle.demands.specs.Given.{Given, checkGiven, planGiven}
 
 -- the record at an index of an accepted plan has its step
 module _ (given : Given) (index : ℕ) (ok : checkGiven given ≡ accepted) (h : index < length (planGiven given)) {part : List ℕ} (p : part ≡ partOf (given .container) 0) {f : Found} (e : f ≡ stepAt part index) where
@@ -41,13 +41,13 @@ module _ (given : Given) (index : ℕ) (ok : checkGiven given ≡ accepted) (h :
   pub found-nothing : f ≡ found.Nothing → ⊥
   found-nothing s = let t = there in let z : _≡_ {A = ℕ} 0 1 = cc in omega arith
 
-module _ {given : Given} (index : ℕ) {w : Work} {stack : Stack} (s : Steady given (stepNumber given index) w stack) {known : Step} (e : known ≡ stepNumber given index)
-    {done : Stepped} {w′ : Work} (t : Taken (given .container) known w stack done w′) where
-  pub done-so : Done (stepNumber given index) (prepared given) w stack done w′
-  done-so = taken-done (stepNumber given index) s (subst (λ (k : Step). Taken (given .container) k w stack done w′) e t)
+module _ {given : Given} (index used : ℕ) {w : Work} {stack : Stack} (s : Steady given (stepNumber given index) w stack) {known : Step} (e : known ≡ stepNumber given index)
+    {done : Stepped} {w′ : Work} (t : Taken (given .container) (drop used (given .draws)) known w stack done w′) where
+  pub done-so : Done (stepNumber given index) (leftGiven given used) w stack done w′
+  done-so = taken-done used (stepNumber given index) s (subst (λ (k : Step). Taken (given .container) (drop used (given .draws)) k w stack done w′) e t)
 
   module _ (m : done .answer ≡ Made) where
-    allowed : verdict (stepNumber given index) (prepared given) (stackIn w stack) ≡ fine
+    allowed : verdict (stepNumber given index) (leftGiven given used) (stackIn w stack) ≡ fine
     allowed = says-is (sym (done-so .answer (s .fits-is)) ∙ ap stepSays m)
 
     -- the table made is on the stack

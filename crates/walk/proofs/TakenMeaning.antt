@@ -2,8 +2,10 @@
 use Prim.Native.Nat.{ℕ, _+_, _-_, _*_, _<_}
 use mathlib.Core.Path.{_≡_, refl, sym, ap, _∙_, subst}
 use mathlib.Core.Bool.{Bool, true, _&&_, and-true, and-eq-true-iff}
+use mathlib.Core.List.{List}
 use native.Mathlib.Omega.{arith}
-use lib.ListN.{length, length-map}
+use lib.IntN.{ℤ}
+use lib.ListN.{length, drop, length-map}
 use borrow.Author.Tests.{ltb-true, le-leb}
 use Rattle.layout.specs.Layout.{partCount, partOf}
 use Rattle.table_part.specs.TablePart.{columnsOf, rowCount, cellCount}
@@ -13,16 +15,18 @@ use Rattle.memory.specs.declared.Stack.{Stack}
 use Rattle.memory.specs.declared.Stepped.{Stepped}
 use Rattle.plan.specs.Widths.{columnsExist}
 use Rattle.plan.specs.declared.Step.{Step}
-use Rattle.plan.specs.declared.Step.the-variants.{Scan, Union, Join, Filter, Keep, Apply, Group}
+use Rattle.plan.specs.declared.Step.the-variants.{Scan, Union, Join, Filter, Keep, Apply, Group, Noise}
 use Rattle.cells.specs.promises.Work.{Work}
 use Rattle.scan.specs.promises.Scanning.{cellsFit}
 use Rattle.step.specs.promises.Taking.{stepFits, Taken}
 use Rattle.walk.specs.promises.Steady.{Steady}
+use Rattle.walk.specs.promises.Walk.{leftGiven}
 use Rattle.apply.proofs.Laws.{apply-fits}
 use Rattle.accepted.proofs.AcceptedTables.{tables-counted, tables-found, header-means}
 use Rattle.group.proofs.Laws.{group-fits}
 use Rattle.memory.proofs.LiveTables.{fits-parts}
-use Rattle.demands.specs.Given.{Given, prepared}
+use Rattle.noise.proofs.Laws.{noise-fits}
+use Rattle.demands.specs.Given.{Given, prepared, supplyGiven}
 
 -- the cells of a table of an accepted container fit
 cells-fit : {given : Given} {table : ℕ} {w : Work} {stack : Stack} → Steady given (Scan table) w stack → cellsFit (partOf (given .container) (table + 1)) ≡ true
@@ -35,16 +39,19 @@ cells-fit {given} {table} {w} {stack} s =
     rw (le-leb (columnsOf part) 8 (h .1), le-leb (rowCount part) 256 (h .2), le-leb (4 + 12 * cellCount part) (length part) (omega (arith, h .3)))
 
 -- so it asks no more than what every step asks
-steps-fit : {given : Given} (step : Step) {w : Work} {stack : Stack} → Steady given step w stack → stepFits (given .container) step w stack ≡ fitsIn step (prepared given) w stack
-steps-fit {given} (Scan table) {w} {stack} s =
-    ap (λ (b : Bool). fitsIn (Scan table) (prepared given) w stack && b) (cells-fit s) ∙ and-true (fitsIn (Scan table) (prepared given) w stack)
-steps-fit Union s = refl
-steps-fit (Join left right) s = refl
-steps-fit (Filter column comparison operand) s = refl
-steps-fit (Keep mask) s = refl
-steps-fit {given} (Apply column transform) {w} {stack} s = apply-fits column transform (prepared given) w stack (s .fits-is) (s .exists) (s .labelled) ∙ sym (s .fits-is)
-steps-fit {given} (Group keys aggregate column) {w} {stack} s = group-fits keys aggregate column (prepared given) w stack (s .fits-is) (s .labelled) ∙ sym (s .fits-is)
+steps-fit : {given : Given} (draws : List ℤ) (step : Step) {w : Work} {stack : Stack} → Steady given step w stack
+    → stepFits (given .container) draws step w stack ≡ fitsIn step (supplyGiven given) w stack
+steps-fit {given} draws (Scan table) {w} {stack} s =
+    ap (λ (b : Bool). fitsIn (Scan table) (supplyGiven given) w stack && b) (cells-fit s) ∙ and-true (fitsIn (Scan table) (supplyGiven given) w stack)
+steps-fit draws Union s = refl
+steps-fit draws (Join left right) s = refl
+steps-fit draws (Filter column comparison operand) s = refl
+steps-fit draws (Keep mask) s = refl
+steps-fit {given} draws (Apply column transform) {w} {stack} s = apply-fits column transform (supplyGiven given) w stack (s .fits-is) (s .exists) (s .labelled) ∙ sym (s .fits-is)
+steps-fit {given} draws (Group keys aggregate column) {w} {stack} s = group-fits keys aggregate column (supplyGiven given) w stack (s .fits-is) (s .labelled) ∙ sym (s .fits-is)
+steps-fit {given} draws (Noise column) {w} {stack} s = noise-fits column (supplyGiven given) w stack (s .fits-is) (s .labelled) ∙ sym (s .fits-is)
 
-pub taken-done : {given : Given} (step : Step) {w : Work} {stack : Stack} {done : Stepped} {after : Work}
-    → Steady given step w stack → Taken (given .container) step w stack done after → Done step (prepared given) w stack done after
-taken-done {given} step {w} {stack} {done} {after} s t = subst (λ (fit : Bool). DoneWhere fit step (prepared given) w stack done after) (steps-fit step s) t
+pub taken-done : {given : Given} (used : ℕ) (step : Step) {w : Work} {stack : Stack} {done : Stepped} {after : Work}
+    → Steady given step w stack → Taken (given .container) (drop used (given .draws)) step w stack done after → Done step (leftGiven given used) w stack done after
+taken-done {given} used step {w} {stack} {done} {after} s t =
+    subst (λ (fit : Bool). DoneWhere fit step (leftGiven given used) w stack done after) (steps-fit (drop used (given .draws)) step s) t

@@ -1,20 +1,21 @@
 -- The walk along a plan: the steps over work memory go where the evaluation goes. Assumes nothing.
-use Prim.Native.Nat.{ℕ, zero, suc, _+_, _*_, _≤_, _<_}
+use Prim.Native.Nat.{ℕ, zero, suc, _+_, _-_, _*_, _≤_, _<_}
 use mathlib.Core.Path.{_≡_, refl, sym, ap, ap₂, subst, _∙_}
-use mathlib.Core.Bool.{true, _&&_, and-eq-true-iff}
+use mathlib.Core.Bool.{true, cond, _&&_, and-eq-true-iff}
 use mathlib.Core.List.{List, [], _∷_, _++_, map, append-nil}
 use native.Mathlib.Omega.{arith}
-use lib.ListN.{length, getD, drop, length-append, length-map}
+use lib.ListN.{length, getD, drop, length-append, length-drop, length-map}
+use lib.Seq.{drop-drop}
 use native.Mathlib.Numerals.{add-one}
-use lib.Dec.{leb}
-use borrow.Author.Tests.{leb-true}
+use lib.Dec.{leb, ltb}
+use borrow.Author.Tests.{leb-true, le-leb, lt-ltb}
 use Rattle.accepted.specs.Accepted.{Placed, operationExists}
 use Rattle.input.specs.Verdict.{accepted}
 use Rattle.layout.specs.Layout.{partOf}
 use Rattle.cells.specs.promises.Labelled.{Labelled}
 use Rattle.cells.specs.promises.Search.{says}
 use Rattle.cells.specs.promises.Work.{Work, room}
-use Rattle.memory.specs.promises.Stack.{ready, tableIn, tablesTo, stackIn, widthsTo, noTables, liveAt, liveTable}
+use Rattle.memory.specs.promises.Stack.{ready, Ready, noTable, tableIn, tablesTo, stackIn, widthsTo, noTables, liveAt, liveTable}
 use Rattle.memory.specs.declared.LiveTable.{LiveTable}
 use Rattle.memory.specs.declared.Refusal.{Refusal}
 use Rattle.memory.specs.promises.Steps.{stepSays, verdict, widthsOf, Done}
@@ -22,9 +23,10 @@ use Rattle.memory.specs.declared.StepAnswer.the-variants.{Made, Refused, DoesNo
 use Rattle.memory.specs.declared.Stack.{Stack}
 use Rattle.memory.specs.declared.Stepped.{Stepped}
 use Rattle.plan.specs.Evaluate.{Outcome, Result, release, refuse, checkRelease, ending, behind, evaluateFrom, evaluate}
+use Rattle.plan.specs.Supply.{Supply, supplied, withoutDraws}
 use Rattle.plan.specs.Table.{Each, Table, top, grid}
 use Rattle.plan.specs.Sense.Trace.{stackLeft}
-use Rattle.plan.specs.Steps.{takes, check, make, tooMany}
+use Rattle.plan.specs.Steps.{takes, check, make, tooMany, drawsUsed, supplyAfter}
 use Rattle.plan.specs.Trace.{Line, lineOf, flatLines}
 use Rattle.plan.specs.Verdict.{Verdict, fine, refused, orElse}
 use Rattle.plan.specs.Widths.{enoughTables, placed}
@@ -34,15 +36,17 @@ use Rattle.plan_part.specs.PlanPart.{stepCount}
 use Rattle.tally.specs.promises.Lines.{withLine}
 use Rattle.demands.specs.Monitor.{evaluation, written}
 use Rattle.walk.specs.promises.Steady.{Steady}
-use Rattle.walk.specs.promises.Walk.{roomIn, stepNumber, before, Going, finish, Walked}
+use Rattle.walk.specs.promises.Walk.{roomIn, stepNumber, before, leftGiven, Going, finish, Walked}
 use Rattle.walk.specs.declared.WalkAnswer.the-variants as answer
 use Rattle.accepted.proofs.AcceptedOperations.{operations-exist}
 use Rattle.accepted.proofs.AcceptedPlan.{plan-placed, steps-counted}
 use Rattle.walk.proofs.LabelledSteps.{make-labelled, tables-labelled}
 use Rattle.demands.proofs.Widths.{each-drop, placed-after}
+use Rattle.cells.proofs.Rows.{rows-length}
 use Rattle.cells.proofs.CellLaws.{kept-none, kept-then}
 use Rattle.memory.proofs.Finish.{says-is, never-unfit, verdicts}
 use Rattle.memory.proofs.Stacks.{is-ready, to-ready, widths-are, stack-length}
+use Rattle.plan.proofs.SenseNoise.{draws-enough}
 use Rattle.plan.proofs.SenseShape.{each-get}
 use Rattle.tally.proofs.Laws.{lines-length, line-fits, line-behind}
 use Rattle.demands.specs.Given.{Given, checkGiven, planGiven, prepared}
@@ -77,26 +81,49 @@ ending-or : (u w : Verdict) (step : ℕ) (onward : Result) → ending (orElse u 
 ending-or fine w step onward = refl
 ending-or (refused number row column) w step onward = refl
 
+-- neither refuses where the first refusal of two is none
+or-fine-left : (u w : Verdict) → orElse u w ≡ fine → u ≡ fine
+or-fine-left fine w e = refl
+or-fine-left (refused number row column) w e = e
+
 -- no lines behind the end
 end-trace : (v : Verdict) (step : ℕ) (outcome : Outcome) → ending v step (record { outcome = outcome; trace = [] }) .trace ≡ []
 end-trace fine step outcome = refl
 end-trace (refused number row column) step outcome = refl
 
 -- the evaluation behind a step that is finished
-abbrev past : List Table → ℕ → List Table → Step → List Step → Result
-past tables step stack next later =
-    behind (lineOf next (make next tables stack)) (evaluateFrom tables (suc step) (make next tables stack ∷ drop (takes next) stack) later)
+abbrev past : Supply → ℕ → List Table → Step → List Step → Result
+past supply step stack next later =
+    behind (lineOf next (make next supply stack)) (evaluateFrom (supplyAfter next stack supply) (suc step) (make next supply stack ∷ drop (takes next) stack) later)
 
-evaluate-next : (tables : List Table) (step : ℕ) (stack : List Table) (next : Step) (later : List Step)
-    → evaluateFrom tables step stack (next ∷ later) ≡ ending (verdict next tables stack) step (past tables step stack next later)
+evaluate-next : (supply : Supply) (step : ℕ) (stack : List Table) (next : Step) (later : List Step)
+    → evaluateFrom supply step stack (next ∷ later) ≡ ending (verdict next supply stack) step (past supply step stack next later)
 unfolding evaluateFrom
-evaluate-next tables step stack next later =
-    sym (ending-or (check next (map grid stack)) (tooMany next (make next tables stack)) step (past tables step stack next later))
+evaluate-next supply step stack next later =
+    sym (ending-or (check next (length (supply .draws)) (map grid stack)) (tooMany next (make next supply stack)) step (past supply step stack next later))
 
-evaluate-end : (tables : List Table) (step : ℕ) (stack : List Table)
-    → evaluateFrom tables step stack [] ≡ ending (checkRelease (top stack)) step (record { outcome = release (top stack); trace = [] })
+evaluate-end : (supply : Supply) (step : ℕ) (stack : List Table)
+    → evaluateFrom supply step stack [] ≡ ending (checkRelease (top stack)) step (record { outcome = release (top stack); trace = [] })
 unfolding evaluateFrom
-evaluate-end tables step stack = refl
+evaluate-end supply step stack = refl
+
+-- ---- draws
+
+-- what a step uses, of what is left when so many are used
+used-more : (given : Given) (used n : ℕ) → withoutDraws n (leftGiven given used) ≡ leftGiven given (used + n)
+used-more given used n =
+    ap (supplied (prepared given)) (drop-drop n used (given .draws))
+
+-- the rows of the table on top, as `live_table` gives them
+pub top-rows : {values labels : ℕ} (w : Work) (stack : Stack) → Ready values labels stack → {table : LiveTable} → table ≡ liveTable stack 0 → table .rows ≡ length (top (stackIn w stack) .rows)
+unfolding liveTable
+top-rows w stack r {table} e = ap (λ (t : LiveTable). t .rows) e ∙ go (stack .depth) (r .depth)
+  where
+    go : (depth : ℕ) → depth ≤ 3 → cond (leb depth 3 && ltb 0 depth) (liveAt stack (depth - 1 - 0)) noTable .rows ≡ length (top (tablesTo w stack depth) .rows)
+    go zero h = refl
+    go (suc depth) h =
+        let d : suc depth - 1 - 0 ≡ depth = omega arith in
+        rw (le-leb (suc depth) 3 h, lt-ltb 0 (suc depth) (omega arith), d) (sym (rows-length _ _ _))
 
 -- the trace of so many lines, as a run leaves it
 lines-written : (lines : List Line) (t₀ t : List ℕ) → t ≡ flatLines lines ++ drop (4 * length lines) t₀ → t ≡ written (flatLines lines) t₀
@@ -115,7 +142,7 @@ rooms w t e =
     (b .0, b .1, a .1)
 
 module _ {given : Given} (ok : checkGiven given ≡ accepted) {w₀ : Work} {t₀ : List ℕ} (long : roomIn w₀ t₀ ≡ true) where
-  begun : Going given w₀ t₀ 0 w₀ t₀ noTables
+  begun : Going given w₀ t₀ 0 0 w₀ t₀ noTables
   unfolding noTables evaluation evaluate ready
   begun = record {
     kept = kept-none w₀;
@@ -125,16 +152,20 @@ module _ {given : Given} (ok : checkGiven given ≡ accepted) {w₀ : Work} {t�
     finished = refl;
     traced = refl;
     places = plan-placed (given .container) ok;
+    drawn = omega arith;
     onward = refl;
     to-come = refl;
   }
 
-  pub go-begin : {stack : Stack} → stack ≡ noTables → Going given w₀ t₀ 0 w₀ t₀ stack
-  go-begin e = subst (Going given w₀ t₀ 0 w₀ t₀) (sym e) begun
+  pub go-begin : {stack : Stack} → stack ≡ noTables → Going given w₀ t₀ 0 0 w₀ t₀ stack
+  go-begin e = subst (Going given w₀ t₀ 0 0 w₀ t₀) (sym e) begun
 
-  module _ {index : ℕ} {w : Work} {t : List ℕ} {stack : Stack} (g : Going given w₀ t₀ index w t stack) where
+  module _ {index used : ℕ} {w : Work} {t : List ℕ} {stack : Stack} (g : Going given w₀ t₀ index used w t stack) where
     abbrev tables : List Table
     tables = prepared given
+
+    abbrev supply : Supply
+    supply = leftGiven given used
 
     abbrev live : List Table
     live = stackIn w stack
@@ -171,43 +202,58 @@ module _ {given : Given} (ok : checkGiven given ≡ accepted) {w₀ : Work} {t�
 
       -- the evaluation, from this step on
       evaluates : evaluation given
-          ≡ before (g .lines) (ending (verdict next tables live) index (past tables index live next rest))
+          ≡ before (g .lines) (ending (verdict next supply live) index (past supply index live next rest))
       evaluates =
           g .onward
-          ∙ ap (before (g .lines)) (ap (evaluateFrom tables index live) (drop-next (planGiven given) index Union h) ∙ evaluate-next tables index live next rest)
+          ∙ ap (before (g .lines)) (ap (evaluateFrom supply index live) (drop-next (planGiven given) index Union h) ∙ evaluate-next supply index live next rest)
 
-      module _ {done : Stepped} {w′ : Work} (d : Done next tables w stack done w′) where
-        says-so : stepSays (done .answer) ≡ says (verdict next tables live)
+      module _ {done : Stepped} {w′ : Work} (d : Done next supply w stack done w′) where
+        says-so : stepSays (done .answer) ≡ says (verdict next supply live)
         says-so = d .answer (go-steady .fits-is)
 
         -- a step that has made its table, and its line behind those before it
-        going-on : (t′ : List ℕ) → done .answer ≡ Made → t′ ≡ withLine index (lineOf next (top (stackIn w′ (done .stack)))) t → Going given w₀ t₀ (suc index) w′ t′ (done .stack)
-        going-on t′ m a =
-            let allowed : verdict next tables live ≡ fine = says-is (sym says-so ∙ ap stepSays m) in
-            let after : stackIn w′ (done .stack) ≡ make next tables live ∷ drop (takes next) live = d .made (go-steady .fits-is) allowed .tables-are in
-            let line = lineOf next (make next tables live) in
-            let count : length (g .lines ++ (line ∷ [])) ≡ length (g .lines) + 1 = length-append (g .lines) (line ∷ []) in
-            record {
-              kept = kept-then (g .kept) (d .kept);
-              is-ready = is-ready (length (w′ .values)) (length (w′ .labels)) (done .stack) (d .made (go-steady .fits-is) allowed .still);
-              labelled = subst (Each Labelled) (sym after) (make-labelled next tables live (tables-labelled given ok) (g .labelled), each-drop Labelled (takes next) live (g .labelled));
-              lines = g .lines ++ (line ∷ []);
-              finished = omega (arith, count, g .finished);
-              traced =
-                  a ∙ ap₂ (λ (n : ℕ) (s : List Table). withLine n (lineOf next (top s)) t) (sym (g .finished)) after ∙ line-behind (g .lines) t t₀ (g .traced) line
-                  ∙ ap (λ (n : ℕ). flatLines (g .lines ++ (line ∷ [])) ++ drop (4 * n) t₀) (sym count);
-              places =
-                  subst (λ (s : List ℕ). Placed (widthsOf tables) s rest)
-                  (ap widthsOf (sym after)) (placed-after next rest tables live places-next);
-              onward =
-                  evaluates ∙ ap (λ (r : Verdict). before (g .lines) (ending r index (past tables index live next rest))) allowed ∙ sym (before-more (g .lines) line _)
-                  ∙ ap (λ (s : List Table). before (g .lines ++ (line ∷ [])) (evaluateFrom tables (suc index) s rest)) (sym after);
-              to-come =
-                  g .to-come ∙ ap (stackLeft tables live) (drop-next (planGiven given) index Union h) ∙ ap (λ (s : List Table). stackLeft tables s rest) (sym after);
-            }
+        module _ (m : done .answer ≡ Made) where
+          allowed : verdict next supply live ≡ fine
+          allowed = says-is (sym says-so ∙ ap stepSays m)
 
-        pub go-on : (t′ : List ℕ) → done .answer ≡ Made → t′ ≡ withLine index (lineOf next (top (stackIn w′ (done .stack)))) t → Going given w₀ t₀ (index + 1) w′ t′ (done .stack)
-        go-on t′ m a = subst (λ (n : ℕ). Going given w₀ t₀ n w′ t′ (done .stack)) (sym (add-one index)) (going-on t′ m a)
+          after : stackIn w′ (done .stack) ≡ make next supply live ∷ drop (takes next) live
+          after = d .made (go-steady .fits-is) allowed .tables-are
+
+          -- there were draws for it
+          pub go-drawn : (n : ℕ) → n ≡ drawsUsed next (length (top live .rows)) → used + n ≤ length (given .draws)
+          go-drawn n e =
+              let few = draws-enough next (length (supply .draws)) live (or-fine-left _ _ allowed) in
+              omega (arith, e, few, length-drop used (given .draws), g .drawn)
+
+          going-on : (t′ : List ℕ) (n : ℕ) → n ≡ drawsUsed next (length (top live .rows)) → t′ ≡ withLine index (lineOf next (top (stackIn w′ (done .stack)))) t
+              → Going given w₀ t₀ (suc index) (used + n) w′ t′ (done .stack)
+          going-on t′ n e a =
+              let line = lineOf next (make next supply live) in
+              let count : length (g .lines ++ (line ∷ [])) ≡ length (g .lines) + 1 = length-append (g .lines) (line ∷ []) in
+              let onwards : supplyAfter next live supply ≡ leftGiven given (used + n) = ap (λ (k : ℕ). withoutDraws k supply) (sym e) ∙ used-more given used n in
+              record {
+                kept = kept-then (g .kept) (d .kept);
+                is-ready = is-ready (length (w′ .values)) (length (w′ .labels)) (done .stack) (d .made (go-steady .fits-is) allowed .still);
+                labelled = subst (Each Labelled) (sym after) (make-labelled next supply live (tables-labelled given ok) (g .labelled), each-drop Labelled (takes next) live (g .labelled));
+                lines = g .lines ++ (line ∷ []);
+                finished = omega (arith, count, g .finished);
+                traced =
+                    a ∙ ap₂ (λ (n : ℕ) (s : List Table). withLine n (lineOf next (top s)) t) (sym (g .finished)) after ∙ line-behind (g .lines) t t₀ (g .traced) line
+                    ∙ ap (λ (n : ℕ). flatLines (g .lines ++ (line ∷ [])) ++ drop (4 * n) t₀) (sym count);
+                places =
+                    subst (λ (s : List ℕ). Placed (widthsOf tables) s rest)
+                    (ap widthsOf (sym after)) (placed-after next rest supply live places-next);
+                drawn = go-drawn n e;
+                onward =
+                    evaluates ∙ ap (λ (r : Verdict). before (g .lines) (ending r index (past supply index live next rest))) allowed ∙ sym (before-more (g .lines) line _)
+                    ∙ ap₂ (λ (p : Supply) (s : List Table). before (g .lines ++ (line ∷ [])) (evaluateFrom p (suc index) s rest)) onwards (sym after);
+                to-come =
+                    g .to-come ∙ ap (stackLeft supply live) (drop-next (planGiven given) index Union h) ∙ ap₂ (λ (p : Supply) (s : List Table). stackLeft p s rest) onwards (sym after);
+              }
+
+          pub go-on : (t′ : List ℕ) (n : ℕ) → n ≡ drawsUsed next (length (top live .rows)) → t′ ≡ withLine index (lineOf next (top (stackIn w′ (done .stack)))) t
+              → Going given w₀ t₀ (index + 1) (used + n) w′ t′ (done .stack)
+          go-on t′ n e a = subst (λ (i : ℕ). Going given w₀ t₀ i (used + n) w′ t′ (done .stack)) (sym (add-one index)) (going-on t′ n e a)
 
         -- a step always fits
         pub go-fits : done .answer ≡ DoesNotFit → ⊥
@@ -218,7 +264,7 @@ module _ {given : Given} (ok : checkGiven given ≡ accepted) {w₀ : Work} {t�
         go-refused refusal e =
             let v = verdicts refusal in
             let comes : evaluation given ≡ before (g .lines) (record { outcome = refuse (v .number) index (v .row) (v .column); trace = [] })
-            = evaluates ∙ ap (λ (r : Verdict). before (g .lines) (ending r index (past tables index live next rest))) (says-is (sym says-so ∙ ap stepSays e) ∙ v .is) in
+            = evaluates ∙ ap (λ (r : Verdict). before (g .lines) (ending r index (past supply index live next rest))) (says-is (sym says-so ∙ ap stepSays e) ∙ v .is) in
             let traces : evaluation given .trace ≡ g .lines = ap (λ (r : Result). r .trace) comes ∙ before-trace (g .lines) _ ∙ append-nil (g .lines) in (
               record {
                 long = long;
@@ -240,7 +286,7 @@ module _ {given : Given} (ok : checkGiven given ≡ accepted) {w₀ : Work} {t�
         let first : left ≡ liveAt stack 0 = l ∙ rw depth in
         let alone : live ≡ tableIn w 0 (left .columns) (left .rows) ∷ [] = ap (tablesTo w stack) depth ∙ ap (λ (t : LiveTable). tableIn w 0 (t .columns) (t .rows) ∷ []) (sym first) in
         let comes : evaluation given ≡ before (g .lines) (ending (checkRelease (top live)) index (record { outcome = release (top live); trace = [] }))
-        = g .onward ∙ ap (before (g .lines)) (ap (evaluateFrom tables index live) none ∙ evaluate-end tables index live) in
+        = g .onward ∙ ap (before (g .lines)) (ap (evaluateFrom supply index live) none ∙ evaluate-end supply index live) in
         let traces : evaluation given .trace ≡ g .lines
         = ap (λ (r : Result). r .trace) comes ∙ before-trace (g .lines) _ ∙ ap (λ (lines : List Line). g .lines ++ lines) (end-trace (checkRelease (top live)) index (release (top live))) ∙ append-nil (g .lines) in (
           record {
@@ -253,7 +299,7 @@ module _ {given : Given} (ok : checkGiven given ≡ accepted) {w₀ : Work} {t�
             all-taken = f;
             few-rows = omega (arith, ap (λ (t : LiveTable). t .rows) first, g .is-ready .rows 0 (omega arith));
             few-columns = omega (arith, ap (λ (t : LiveTable). t .columns) first, g .is-ready .columns 0 (omega arith));
-            table-is = g .to-come ∙ ap (stackLeft tables live) none ∙ alone;
+            table-is = g .to-come ∙ ap (stackLeft supply live) none ∙ alone;
             outcome = ap (λ (r : Result). r .outcome) comes ∙ before-outcome (g .lines) _ ∙ ap₂ (λ (n : ℕ) (s : List Table). finish n (top s)) e alone;
           },
         )

@@ -1,7 +1,9 @@
 // The steps of a plan, from the first to the last or to a refusal.
 ghost use mathlib.Core.Path.{_≡_};
 ghost use mathlib.Core.Bool.{true};
+ghost use mathlib.Core.List.{List};
 ghost use Prim.Native.Nat.{_<_};
+ghost use lib.IntN.{ℤ};
 ghost use lib.ListN.{length};
 ghost use Rattle.cells.specs.promises.Work.{work};
 ghost use Rattle.demands.specs.Given.{given, checkGiven, planGiven};
@@ -14,15 +16,17 @@ use memory::StepAnswer;
 use plan::Step;
 use records::Found;
 
-// Takes the steps of a container's plan, and writes the lines of those that are finished to the trace's start. Work memory and the trace
-// are long enough where they have 8,192 and 256 elements.
+// Takes the steps of a container's plan, with draws for its NOISE steps, and writes the lines of those that are finished to the trace's
+// start. Work memory and the trace are long enough where they have 8,192 and 256 elements.
 pub fn walk(
     container: &[u8],
+    draws: &[i64],
     values: &mut [i64],
     labels: &mut [u32],
     trace: &mut [u32],
 ) -> WalkAnswer
-    ensures { λ r. ⌜ Walked (given (now (container .entry))) (work (now (values .entry)) (now (labels .entry))) (now (trace .entry)) r
+    ensures { λ r. ⌜ Walked (given (now (container .entry)) (now (draws .entry))) (work (now (values .entry)) (now (labels .entry)))
+        (now (trace .entry)) r
         (work (now (values .exit)) (now (labels .exit))) (now (trace .exit)) ⌝ }
 {
     if !has_room(values.len(), labels.len(), trace.len()) {
@@ -30,7 +34,7 @@ pub fn walk(
     }
     match container::check_input(container) {
         InputCheck::Refused(refusal) => WalkAnswer::Input(refusal),
-        InputCheck::Accepted => take_steps(container, values, labels, trace),
+        InputCheck::Accepted => take_steps(container, draws, values, labels, trace),
     }
 }
 
@@ -44,21 +48,25 @@ fn has_room(values: usize, labels: usize, trace: usize) -> bool
 // Takes the steps of an accepted container's plan.
 fn take_steps(
     container: &[u8],
+    draws: &[i64],
     values: &mut [i64],
     labels: &mut [u32],
     trace: &mut [u32],
 ) -> WalkAnswer
-    requires { ⌜ (checkGiven (given (now container)) ≡ accepted)
+    requires { ⌜ (checkGiven (given (now container) (now draws)) ≡ accepted)
         × (walkRoom (length (now values)) (length (now labels)) (length (now trace)) ≡ true) ⌝ }
-    ensures { λ r. ⌜ Walked (given (now (container .entry))) (work (now (values .entry)) (now (labels .entry))) (now (trace .entry)) r
+    ensures { λ r. ⌜ Walked (given (now (container .entry)) (now (draws .entry))) (work (now (values .entry)) (now (labels .entry)))
+        (now (trace .entry)) r
         (work (now (values .exit)) (now (labels .exit))) (now (trace .exit)) ⌝ }
 {
     let count = plan_part::step_count(layout::part(container, 0));
     let mut stack = memory::no_tables();
     let mut index = 0;
+    let mut used = 0;
     while index < count {
         let next = step_number(container, index);
-        let stepped = step::take_step(container, values, labels, stack, next);
+        let top = memory::live_table(stack, 0);
+        let stepped = step::take_step(container, &draws[used..], values, labels, stack, next);
         let answer = stepped.answer;
         match answer {
             StepAnswer::Refused(refusal) => {
@@ -71,6 +79,7 @@ fn take_steps(
         }
         stack = stepped.stack;
         write_step(labels, trace, stack, index, next);
+        used += kinds::draws_used(next, top.rows);
         index += 1;
     }
     let left = memory::live_table(stack, 0);
@@ -79,8 +88,8 @@ fn take_steps(
 
 // The step at an index of an accepted container's plan.
 fn step_number(container: &[u8], index: usize) -> Step
-    ensures { λ r. ⌜ (checkGiven (given (now (container .entry))) ≡ accepted → index < length (planGiven (given (now (container .entry))))
-        → r ≡ stepNumber (given (now (container .entry))) index) ⌝ }
+    ensures { λ r. ⌜ ((draws : List ℤ) → checkGiven (given (now (container .entry)) draws) ≡ accepted
+        → index < length (planGiven (given (now (container .entry)) draws)) → r ≡ stepNumber (given (now (container .entry)) draws) index) ⌝ }
 {
     match plan_part::step_at(layout::part(container, 0), index) {
         Found::Step(step) => step,

@@ -12,7 +12,7 @@ use Rattle.plan.specs.Masks.{inMask}
 use Rattle.plan.specs.Keep.{keptCount}
 use Rattle.plan.specs.Widths.{columnsExist, madeColumns, placed}
 use Rattle.plan.specs.declared.Step.{Step}
-use Rattle.plan.specs.declared.Step.the-variants.{Scan, Union, Join, Filter, Keep, Apply, Group}
+use Rattle.plan.specs.declared.Step.the-variants.{Scan, Union, Join, Filter, Keep, Apply, Group, Noise}
 
 pub placed-parts : (step : Step) (tables stack : List ℕ) → placed step tables stack ≡ true
     → (columnsExist step tables stack ≡ true) × (madeColumns step tables stack ≤ 8)
@@ -34,6 +34,7 @@ two-looked-at (Filter column comparison operand) tables stack = (refl, refl)
 two-looked-at (Keep mask) tables stack = (refl, refl)
 two-looked-at (Apply column transform) tables stack = (refl, refl)
 two-looked-at (Group keys aggregate column) tables stack = (refl, refl)
+two-looked-at (Noise column) tables stack = (refl, refl)
 
 one-le : (t : Bool) → cond t 1 0 ≤ 1
 one-le true = omega arith

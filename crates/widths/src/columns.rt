@@ -53,6 +53,7 @@ fn columns_exist(step: Step, tables: &[usize], left: usize, right: usize) -> boo
             aggregate: _,
             column,
         } => mask_fits(keys, right) & (column < right),
+        Step::Noise { column } => column < right,
     }
 }
 
@@ -80,6 +81,7 @@ fn made_columns(step: Step, tables: &[usize], left: usize, right: usize) -> usiz
             aggregate: _,
             column: _,
         } => kept_count(keys, right) + 1,
+        Step::Noise { column: _ } => right + 1,
     }
 }
 

@@ -7,6 +7,7 @@ use Rattle.operations.specs.promises.Operations.{operationFits}
 use Rattle.memory.specs.declared.Stack.{Stack}
 use Rattle.memory.specs.promises.Stack.{topFormed}
 use Rattle.memory.specs.promises.Steps.{fitsIn}
+use Rattle.plan.specs.Supply.{Supply}
 use Rattle.plan.specs.Table.{Table}
 use Rattle.plan.specs.declared.Step.the-variants.{Apply}
 use Rattle.plan.specs.declared.Transform.{Transform}
@@ -15,5 +16,5 @@ use Rattle.plan.specs.declared.Transform.{Transform}
 abbrev pub operandsFit : ℕ → Transform → Work → Stack → Bool
 operandsFit column transform work stack = operationFits transform && topFormed column work stack
 
-abbrev pub applyFits : ℕ → Transform → List Table → Work → Stack → Bool
-applyFits column transform tables work stack = fitsIn (Apply column transform) tables work stack && operandsFit column transform work stack
+abbrev pub applyFits : ℕ → Transform → Supply → Work → Stack → Bool
+applyFits column transform supply work stack = fitsIn (Apply column transform) supply work stack && operandsFit column transform work stack

@@ -19,6 +19,9 @@ enum-known-refusal-3 c = search needs
 enum-told : tie.Need-enum-told
 enum-told c = search needs
 
+enum-known-refusal-4 : tie.Need-enum-known-refusal-4
+enum-known-refusal-4 c = search needs
+
 returns : tie.Need-returns
 returns c = (sym (ap (refusalTells three) (c .before .refusal .given .1)), omega arith)
 
@@ -31,6 +34,9 @@ returns-3 c = (sym (ap (refusalTells three) (c .before .refusal3 .given .1)), om
 returns-4 : tie.Need-returns-4
 returns-4 c = search needs
 
+returns-5 : tie.Need-returns-5
+returns-5 c = (sym (ap (refusalTells three) (c .before .refusal4 .given .1)), omega arith)
+
 pub step-numbers-spec : {M : Type 1} → statement M
 step-numbers-spec =
     tie.close
@@ -39,7 +45,9 @@ step-numbers-spec =
     enum-known-refusal-2
     enum-known-refusal-3
     enum-told
+    enum-known-refusal-4
     returns
     returns-2
     returns-3
-    returns-4)
+    returns-4
+    returns-5)

@@ -6,10 +6,11 @@ use Rattle.cells.specs.promises.Work.{Work}
 use Rattle.memory.specs.declared.Stack.{Stack}
 use Rattle.memory.specs.promises.Stack.{topFormed}
 use Rattle.memory.specs.promises.Steps.{fitsIn}
+use Rattle.plan.specs.Supply.{Supply}
 use Rattle.plan.specs.Table.{Table}
 use Rattle.plan.specs.declared.Aggregate.{Aggregate}
 use Rattle.plan.specs.declared.Step.the-variants.{Group}
 
 -- every label of the column that is aggregated is well-formed
-abbrev pub groupFits : ℕ → Aggregate → ℕ → List Table → Work → Stack → Bool
-groupFits keys aggregate column tables work stack = fitsIn (Group keys aggregate column) tables work stack && topFormed column work stack
+abbrev pub groupFits : ℕ → Aggregate → ℕ → Supply → Work → Stack → Bool
+groupFits keys aggregate column supply work stack = fitsIn (Group keys aggregate column) supply work stack && topFormed column work stack

@@ -18,6 +18,7 @@ use Rattle.memory.specs.declared.Stepped.{Stepped}
 use Rattle.memory.specs.promises.Stack.{ready, lastSlot, stackIn, widthsTo, withTable}
 use Rattle.plan.specs.Numbers.{kindOf}
 use Rattle.plan.specs.Steps.{takes, check, make, tooMany}
+use Rattle.plan.specs.Supply.{Supply}
 use Rattle.plan.specs.Table.{Table, grid}
 use Rattle.plan.specs.Verdict.{Verdict, fine, refused, orElse}
 use Rattle.plan.specs.Widths.{enoughTables, placed, madeColumns}
@@ -34,8 +35,8 @@ stepSays (Refused refusal) = says (refusalSays refusal)
 stepSays DoesNotFit = unfit
 
 -- what a step refuses on a stack: by the labels, and then by the rows made
-abbrev pub verdict : Step → List Table → List Table → Verdict
-verdict step tables stack = orElse (check step (map grid stack)) (tooMany step (make step tables stack))
+abbrev pub verdict : Step → Supply → List Table → Verdict
+verdict step supply stack = orElse (check step (length (supply .draws)) (map grid stack)) (tooMany step (make step supply stack))
 
 -- slices of these lengths, a stack and a step that fit: the tables and columns that the step names exist, and it makes at most 8 columns.
 -- `tables` are the widths of the container's tables.
@@ -51,9 +52,9 @@ fit step tables values labels stack =
 abbrev pub widthsOf : List Table → List ℕ
 widthsOf tables = map (λ table. table .columns) tables
 
--- the same of the contents of work memory and of the container's tables
-abbrev pub fitsIn : Step → List Table → Work → Stack → Bool
-fitsIn step tables work stack = fits step (widthsOf tables) (length (work .values)) (length (work .labels)) stack
+-- the same of the contents of work memory and of what the plan is given
+abbrev pub fitsIn : Step → Supply → Work → Stack → Bool
+fitsIn step supply work stack = fits step (widthsOf (supply .tables)) (length (work .values)) (length (work .labels)) stack
 
 -- the stack after a step that made a table: it stands where the lowest table taken stood, and none stands above it
 abbrev pub stackMade : Step → Table → Stack → Stack
@@ -61,9 +62,9 @@ stackMade step made stack = withTable stack (stack .depth - takes step) (made .c
 
 -- A step has made its table: the stack is fixed as a whole, and so are all its tables in memory; it still fits. The other elements that a run
 -- uses are free (`free`, in `step`).
-pub record TableMade (step : Step) (tables : List Table) (before : Work) (stack : Stack) (done : Stepped) (after : Work) : Type 0 where
-  pub stack-is : done .stack ≡ stackMade step (make step tables (stackIn before stack)) stack
-  pub tables-are : stackIn after (done .stack) ≡ make step tables (stackIn before stack) ∷ drop (takes step) (stackIn before stack)
+pub record TableMade (step : Step) (supply : Supply) (before : Work) (stack : Stack) (done : Stepped) (after : Work) : Type 0 where
+  pub stack-is : done .stack ≡ stackMade step (make step supply (stackIn before stack)) stack
+  pub tables-are : stackIn after (done .stack) ≡ make step supply (stackIn before stack) ∷ drop (takes step) (stackIn before stack)
   pub still : ready (length (after .values)) (length (after .labels)) (done .stack) ≡ true
 
 -- JOIN makes its rows in the last slot, and may say 34 when some are there.
@@ -77,17 +78,17 @@ pub record Unmade (step : Step) (number : ℕ) (before : Work) (stack : Stack) (
   pub values-below : take lastSlot (after .values) ≡ take lastSlot (before .values)
   pub labels-below : take lastSlot (after .labels) ≡ take lastSlot (before .labels)
 
--- A step handed work memory and a stack, where `fit` says whether these fit: its answer, the stack and work memory after it. `tables` are the
--- container's.
-pub record DoneWhere (fit : Bool) (step : Step) (tables : List Table) (before : Work) (stack : Stack) (done : Stepped) (after : Work) : Type 0 where
+-- A step handed work memory and a stack, where `fit` says whether these fit: its answer, the stack and work memory after it. `supply` is what is
+-- left for it of the container's tables and the draws.
+pub record DoneWhere (fit : Bool) (step : Step) (supply : Supply) (before : Work) (stack : Stack) (done : Stepped) (after : Work) : Type 0 where
   -- arguments that do not fit change nothing
   pub misfit : fit ≡ false → (stepSays (done .answer) ≡ unfit) × (done .stack ≡ stack) × (after ≡ before)
   -- the answer is the meaning's
-  pub answer : fit ≡ true → stepSays (done .answer) ≡ says (verdict step tables (stackIn before stack))
-  pub unmade : fit ≡ true → (number row column : ℕ) → verdict step tables (stackIn before stack) ≡ refused number row column
+  pub answer : fit ≡ true → stepSays (done .answer) ≡ says (verdict step supply (stackIn before stack))
+  pub unmade : fit ≡ true → (number row column : ℕ) → verdict step supply (stackIn before stack) ≡ refused number row column
       → Unmade step number before stack done after
-  pub made : fit ≡ true → verdict step tables (stackIn before stack) ≡ fine → TableMade step tables before stack done after
+  pub made : fit ≡ true → verdict step supply (stackIn before stack) ≡ fine → TableMade step supply before stack done after
   pub kept : Kept before after
 
-abbrev pub Done : Step → List Table → Work → Stack → Stepped → Work → Type 0
-Done step tables before stack = DoneWhere (fitsIn step tables before stack) step tables before stack
+abbrev pub Done : Step → Supply → Work → Stack → Stepped → Work → Type 0
+Done step supply before stack = DoneWhere (fitsIn step supply before stack) step supply before stack

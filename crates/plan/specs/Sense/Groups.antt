@@ -8,6 +8,7 @@ use Rattle.plan.specs.Masks.{inMask}
 use Rattle.plan.specs.Group.{sameKeys, groupsAfter, groupRow}
 use Rattle.plan.specs.Sense.Rows.{Sifted}
 use Rattle.plan.specs.Steps.{make}
+use Rattle.plan.specs.Supply.{Supply}
 use Rattle.plan.specs.Table.{Row, Table, cellAt, top, Each}
 use Rattle.plan.specs.declared.Aggregate.{Aggregate}
 use Rattle.plan.specs.declared.Step.the-variants.{Group}
@@ -15,8 +16,8 @@ use Rattle.comparison.specs.Comparison.{same}
 
 -- GROUP makes a row of each group of the table, in their order
 abbrev pub GroupRows : Type 0
-GroupRows = (keys : ℕ) (aggregate : Aggregate) (column : ℕ) (tables stack : List Table)
-    → make (Group keys aggregate column) tables stack .rows
+GroupRows = (keys : ℕ) (aggregate : Aggregate) (column : ℕ) (supply : Supply) (stack : List Table)
+    → make (Group keys aggregate column) supply stack .rows
     ≡ map (groupRow keys (top stack .columns) aggregate column) (groupsAfter keys (top stack .columns) [] (top stack .rows))
 
 -- two rows have the same keys exactly if each column of the mask has the same value in both

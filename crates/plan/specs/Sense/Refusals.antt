@@ -1,12 +1,12 @@
 -- Where a step refuses: "The first cell met row by row, left to right, gives the place." These are theorems about the definitions, each proved;
 -- nothing here is to be believed.
-use Prim.Native.Nat.{ℕ, _+_, _<_}
+use Prim.Native.Nat.{ℕ, _+_, _≤_, _<_}
 use mathlib.Core.Path.{_≡_}
 use mathlib.Core.Bool.{true, false}
 use mathlib.Core.List.{List, [], map}
 use mathlib.Core.Logic.{_⊎_}
 use lib.ListN.{length, getD}
-use Rattle.label_discharge.specs.Discharge.{forbidsT, forbidsA}
+use Rattle.label_discharge.specs.Discharge.{forbidsT, forbidsA, forbidsN}
 use Rattle.plan.specs.Masks.{inMask}
 use Rattle.plan.specs.Evaluate.{checkRelease}
 use Rattle.plan.specs.Steps.{check}
@@ -16,7 +16,7 @@ use Rattle.plan.specs.declared.Aggregate.{Aggregate}
 use Rattle.plan.specs.declared.Comparison.{Comparison}
 use Rattle.plan.specs.declared.Operand.{Operand}
 use Rattle.plan.specs.declared.Operand.the-variants.{Constant, Column}
-use Rattle.plan.specs.declared.Step.the-variants.{Join, Filter, Apply, Group}
+use Rattle.plan.specs.declared.Step.the-variants.{Join, Filter, Apply, Group, Noise}
 use Rattle.plan.specs.declared.Transform.{Transform}
 use Rattle.plan.specs.declared.Transform.the-variants.{Add, Sub, Cut, Band}
 use Rattle.value.specs.Range.{inRange}
@@ -71,8 +71,8 @@ FilterFails column operand table p =
     (p .number ≡ 31) × ((p .column ≡ column) ⊎ OperandColumn operand (p .column)) × NotClear table (p .row) (p .column)
 
 abbrev pub FilterRefusal : Type 0
-FilterRefusal = (column : ℕ) (comparison : Comparison) (operand : Operand) (stack : List Table)
-    → FirstAt RowByRow (FilterFails column operand (top stack)) (check (Filter column comparison operand) (map grid stack))
+FilterRefusal = (column : ℕ) (comparison : Comparison) (operand : Operand) (left : ℕ) (stack : List Table)
+    → FirstAt RowByRow (FilterFails column operand (top stack)) (check (Filter column comparison operand) left (map grid stack))
 
 -- "Right rows of a JOIN are numbered on from the left."
 abbrev pub JoinFails : ℕ → ℕ → Table → Table → RefusalPlace → Type 0
@@ -82,7 +82,7 @@ JoinFails a b left right p =
     ⊎ ((row : ℕ) × (p .row ≡ length (left .rows) + row) × (p .column ≡ b) × NotClear right row (p .column)))
 
 abbrev pub JoinRefusal : Type 0
-JoinRefusal = (a b : ℕ) (stack : List Table) → FirstAt RowByRow (JoinFails a b (second stack) (top stack)) (check (Join a b) (map grid stack))
+JoinRefusal = (a b left : ℕ) (stack : List Table) → FirstAt RowByRow (JoinFails a b (second stack) (top stack)) (check (Join a b) left (map grid stack))
 
 -- "32: .. GROUP forbidden by the first operand's label. In GROUP, after all keys."
 abbrev pub GroupFails : ℕ → ℕ → Table → RefusalPlace → Type 0
@@ -91,8 +91,8 @@ GroupFails keys column table p =
     ⊎ ((p .number ≡ 32) × (p .column ≡ column) × (forbidsA (cellIn table (p .row) (p .column) .label) ≡ true))
 
 abbrev pub GroupRefusal : Type 0
-GroupRefusal = (keys : ℕ) (aggregate : Aggregate) (column : ℕ) (stack : List Table)
-    → FirstAt NumberByNumber (GroupFails keys column (top stack)) (check (Group keys aggregate column) (map grid stack))
+GroupRefusal = (keys : ℕ) (aggregate : Aggregate) (column left : ℕ) (stack : List Table)
+    → FirstAt NumberByNumber (GroupFails keys column (top stack)) (check (Group keys aggregate column) left (map grid stack))
 
 -- ---- "32: APPLY .. forbidden by the first operand's label." "33: APPLY's second operand is not clear; in each row after 32."
 
@@ -108,8 +108,19 @@ ApplyFails column transform table p =
     ⊎ ((p .number ≡ 33) × SecondColumn transform (p .column) × NotClear table (p .row) (p .column))
 
 abbrev pub ApplyRefusal : Type 0
-ApplyRefusal = (column : ℕ) (transform : Transform) (stack : List Table)
-    → FirstAt InEachRow (ApplyFails column transform (top stack)) (check (Apply column transform) (map grid stack))
+ApplyRefusal = (column : ℕ) (transform : Transform) (left : ℕ) (stack : List Table)
+    → FirstAt InEachRow (ApplyFails column transform (top stack)) (check (Apply column transform) left (map grid stack))
+
+-- ---- #102: "forbidden with 32 where T, A or H stands highest"; "37 at a row for which no draw is left, column a, after 32 in that row"
+
+abbrev pub NoiseFails : ℕ → ℕ → Table → RefusalPlace → Type 0
+NoiseFails column left table p =
+    (p .row < length (table .rows)) × (p .column ≡ column)
+    × (((p .number ≡ 32) × (forbidsN (cellIn table (p .row) column .label) ≡ true)) ⊎ ((p .number ≡ 37) × (left ≤ p .row)))
+
+abbrev pub NoiseRefusal : Type 0
+NoiseRefusal = (column left : ℕ) (stack : List Table)
+    → FirstAt InEachRow (NoiseFails column left (top stack)) (check (Noise column) left (map grid stack))
 
 -- ---- "35: at release a cell has a stage left. 36: no 35, but a cell is OVER."
 

@@ -10,6 +10,7 @@ use Rattle.plan.specs.Filter.{passes}
 use Rattle.plan.specs.Join.{matches, joinedRow}
 use Rattle.plan.specs.Operands.{operandValue}
 use Rattle.plan.specs.Steps.{make}
+use Rattle.plan.specs.Supply.{Supply}
 use Rattle.plan.specs.Table.{Row, Table, cellAt, top, second}
 use Rattle.plan.specs.declared.Comparison.{Comparison}
 use Rattle.plan.specs.declared.Comparison.the-variants.{Equal, Unequal, Less, AtMost, Greater, AtLeast}
@@ -46,8 +47,8 @@ PassesMeans = (column : ℕ) (comparison : Comparison) (operand : Operand) (row 
 
 -- a row is kept exactly if it passes, and the order stays
 abbrev pub FilterSifts : Type 0
-FilterSifts = (column : ℕ) (comparison : Comparison) (operand : Operand) (tables stack : List Table)
-    → Sifted (passes column comparison operand) (make (Filter column comparison operand) tables stack .rows) (top stack .rows)
+FilterSifts = (column : ℕ) (comparison : Comparison) (operand : Operand) (supply : Supply) (stack : List Table)
+    → Sifted (passes column comparison operand) (make (Filter column comparison operand) supply stack .rows) (top stack .rows)
 
 -- ---- "3. JOIN .. For each left row, each matching right row in order"
 
@@ -64,7 +65,7 @@ pairs (x ∷ xs) ys = map (λ y. (x, y)) ys ++ pairs xs ys
 
 -- the joined rows are made of the pairs that match, in that order, and of no others
 abbrev pub JoinSifts : Type 0
-JoinSifts = (a b : ℕ) (tables stack : List Table)
+JoinSifts = (a b : ℕ) (supply : Supply) (stack : List Table)
     → (matching : List (Row × Row))
     × Sifted (λ pair. matches a b (pair .0) (pair .1)) matching (pairs (second stack .rows) (top stack .rows))
-    × (make (Join a b) tables stack .rows ≡ map (λ pair. joinedRow b (pair .0) (pair .1)) matching)
+    × (make (Join a b) supply stack .rows ≡ map (λ pair. joinedRow b (pair .0) (pair .1)) matching)

@@ -23,19 +23,22 @@ same : (n : ℕ) → n ≤ n
 same n = omega arith
 
 -- the number does not hang on what the lent slices hold
-number-same : (container : List ℕ) (v : List ℤ) (l : List ℕ) (o : List ℤ) (t x answer : List ℕ) {number : ℕ} {left : Lent} {told : List ℕ}
-    → runCalled number left told ≡ runCall (given container) (lent v l o t x) answer → 8192 ≤ length v → 8192 ≤ length l → 2048 ≤ length o → 256 ≤ length t
-    → 35097 ≤ length x → 4 ≤ length answer → CallNumber container number
-number-same container v l o t x answer e a b c d f g other others h r k =
+number-same : (container : List ℕ) (draws v : List ℤ) (l : List ℕ) (o : List ℤ) (t x answer : List ℕ) {number : ℕ} {left : Lent} {told : List ℕ}
+    → runCalled number left told ≡ runCall (given container draws) (lent v l o t x) answer → 8192 ≤ length v → 8192 ≤ length l → 2048 ≤ length o → 256 ≤ length t
+    → 35097 ≤ length x → 4 ≤ length answer → CallNumber container draws number
+number-same container draws v l o t x answer e a b c d f g other others h r k =
     let long : enough (lent v l o t x) ≡ true = rw (le-leb 8192 (length v) a, le-leb 8192 (length l) b, le-leb 2048 (length o) c, le-leb 256 (length t) d) in
-    ap (λ (r : RunCall). r .number) (e ∙ long-call (given container) (lent v l o t x) answer g)
-    ∙ ap (λ (told : Told). getD (numbersOf told) 0 0) (answer-same (given container) (lent v l o t x) other long h f r)
-    ∙ sym (ap (λ (r : RunCall). r .number) (long-call (given container) other others k))
+    ap (λ (r : RunCall). r .number) (e ∙ long-call (given container draws) (lent v l o t x) answer g)
+    ∙ ap (λ (told : Told). getD (numbersOf told) 0 0) (answer-same (given container draws) (lent v l o t x) other long h f r)
+    ∙ sym (ap (λ (r : RunCall). r .number) (long-call (given container draws) other others k))
 
 -- the call, and what stands before it
-called : (c : tie.After-cilunovay-run) → CallNumber (now (c .before .before .before .before .before .before .before .before .args .container)) (c .cilunovay-run .result)
+abbrev start : tie.After-cilunovay-run → tie.Start
+start c = c .before .before .before .before .before .before .before .before
+
+called : (c : tie.After-cilunovay-run) → CallNumber (now (start c .args .container)) (now (start c .args .draws)) (c .cilunovay-run .result)
 called c =
-    number-same (now (c .before .before .before .before .before .before .before .before .args .container)) _ _ _ _ _ _ (c .cilunovay-run .ensures)
+    number-same (now (start c .args .container)) (now (start c .args .draws)) _ _ _ _ _ _ (c .cilunovay-run .ensures)
     (same 8192) (same 8192) (same 2048) (same 256) (same 35097) (same 4)
 
 slice-aggregate-cilunovay-run : tie.Need-slice-aggregate-cilunovay-run

@@ -3,12 +3,13 @@ use Prim.Native.Nat.{ℕ, _≤_}
 use mathlib.Core.Path.{_≡_}
 use mathlib.Core.Bool.{true}
 use mathlib.Core.List.{List}
+use lib.IntN.{ℤ}
 use lib.ListN.{length}
 use Rattle.demands.specs.Calls.{runCall}
 use Rattle.demands.specs.Given.{given}
 use Rattle.demands.specs.Lent.{Lent, enough}
 
 -- the number of every call of `cilunovay_run` with slices of enough elements, and room for the longest text
-abbrev pub CallNumber : List ℕ → ℕ → Type 0
-CallNumber container number = (lent : Lent) (answer : List ℕ) → enough lent ≡ true → 35097 ≤ length (lent .text) → 4 ≤ length answer
-    → number ≡ runCall (given container) lent answer .number
+abbrev pub CallNumber : List ℕ → List ℤ → ℕ → Type 0
+CallNumber container draws number = (lent : Lent) (answer : List ℕ) → enough lent ≡ true → 35097 ≤ length (lent .text) → 4 ≤ length answer
+    → number ≡ runCall (given container draws) lent answer .number

@@ -11,7 +11,7 @@ use Rattle.memory.specs.declared.Stack.{Stack}
 use Rattle.memory.specs.declared.Stepped.{Stepped}
 use Rattle.memory.specs.promises.Stack.{slot, stackIn}
 use Rattle.memory.specs.promises.Steps.{verdict, DoneWhere}
-use Rattle.plan.specs.Table.{Table}
+use Rattle.plan.specs.Supply.{Supply}
 use Rattle.plan.specs.Verdict.{fine}
 use Rattle.plan.specs.declared.Step.{Step}
 
@@ -30,9 +30,9 @@ free stack place = ltb place room && not (inTables stack (stack .depth) place)
 -- Two functions that keep the promise answer the same stack, entries above its depth included, and leave the same in every element that is
 -- not free.
 abbrev pub OnlyFreeOpen : Type 0
-OnlyFreeOpen = (fit : Bool) (step : Step) (tables : List Table) (before : Work) (stack : Stack) (done done′ : Stepped) (after after′ : Work)
-    → DoneWhere fit step tables before stack done after → DoneWhere fit step tables before stack done′ after′
-    → fit ≡ true → verdict step tables (stackIn before stack) ≡ fine
+OnlyFreeOpen = (fit : Bool) (step : Step) (supply : Supply) (before : Work) (stack : Stack) (done done′ : Stepped) (after after′ : Work)
+    → DoneWhere fit step supply before stack done after → DoneWhere fit step supply before stack done′ after′
+    → fit ≡ true → verdict step supply (stackIn before stack) ≡ fine
     → (done .stack ≡ done′ .stack) × (length (after .values) ≡ length (after′ .values)) × (length (after .labels) ≡ length (after′ .labels))
     × ((place : ℕ) → free (done .stack) place ≡ false
     → (getD (after .values) place (pos 0) ≡ getD (after′ .values) place (pos 0)) × (getD (after .labels) place 0 ≡ getD (after′ .labels) place 0))

@@ -15,12 +15,13 @@ use Rattle.memory.specs.promises.Steps.{widthsOf}
 use Rattle.memory.specs.Refusals.{refusalTells}
 use Rattle.memory.specs.declared.Stack.{Stack}
 use Rattle.plan.specs.Evaluate.{Outcome, Result, release, refuse, checkRelease, ending, behind, evaluateFrom}
+use Rattle.plan.specs.Supply.{Supply, withoutDraws}
 use Rattle.plan.specs.Table.{Each, Table}
 use Rattle.plan.specs.Sense.Trace.{stackLeft}
 use Rattle.plan.specs.Trace.{Line, flatLines}
 use Rattle.plan.specs.declared.Step.{Step}
 use Rattle.plan.specs.declared.Step.the-variants.{Union}
-use Rattle.demands.specs.Given.{Given, checkGiven, planGiven, prepared}
+use Rattle.demands.specs.Given.{Given, checkGiven, planGiven, prepared, supplyGiven}
 use Rattle.demands.specs.Monitor.{evaluation, written}
 use Rattle.walk.specs.declared.WalkAnswer.{WalkAnswer}
 use Rattle.walk.specs.declared.WalkAnswer.the-variants as answer
@@ -41,9 +42,13 @@ abbrev pub before : List Line → Result → Result
 before [] later = later
 before (line ∷ rest) later = behind line (before rest later)
 
--- Before step number `index`, in slices that held `work₀` and `trace₀` when the walk began: the steps before it are finished, the
--- trace has their lines, and the evaluation goes on from the stack in work memory.
-pub record Going (given : Given) (work₀ : Work) (trace₀ : List ℕ) (index : ℕ) (work : Work) (trace : List ℕ) (stack : Stack) : Type 0 where
+-- what is left for a step when so many draws are used
+abbrev pub leftGiven : Given → ℕ → Supply
+leftGiven given used = withoutDraws used (supplyGiven given)
+
+-- Before step number `index`, in slices that held `work₀` and `trace₀` when the walk began: the steps before it are finished and have used so
+-- many draws, the trace has their lines, and the evaluation goes on from the stack in work memory.
+pub record Going (given : Given) (work₀ : Work) (trace₀ : List ℕ) (index used : ℕ) (work : Work) (trace : List ℕ) (stack : Stack) : Type 0 where
   pub kept : Kept work₀ work
   pub is-ready : Ready (length (work .values)) (length (work .labels)) stack
   pub labelled : Each Labelled (stackIn work stack)
@@ -51,8 +56,9 @@ pub record Going (given : Given) (work₀ : Work) (trace₀ : List ℕ) (index :
   pub finished : length lines ≡ index
   pub traced : trace ≡ flatLines lines ++ drop (4 * length lines) trace₀
   pub places : Placed (widthsOf (prepared given)) (widthsOf (stackIn work stack)) (drop index (planGiven given))
-  pub onward : evaluation given ≡ before lines (evaluateFrom (prepared given) index (stackIn work stack) (drop index (planGiven given)))
-  pub to-come : stackLeft (prepared given) [] (planGiven given) ≡ stackLeft (prepared given) (stackIn work stack) (drop index (planGiven given))
+  pub drawn : used ≤ length (given .draws)
+  pub onward : evaluation given ≡ before lines (evaluateFrom (leftGiven given used) index (stackIn work stack) (drop index (planGiven given)))
+  pub to-come : stackLeft (supplyGiven given) [] (planGiven given) ≡ stackLeft (leftGiven given used) (stackIn work stack) (drop index (planGiven given))
 
 -- what the evaluation comes to when its last step is finished: the release of the table left, or 35 or 36
 abbrev pub finish : ℕ → Table → Outcome
@@ -70,7 +76,7 @@ pub record Left (given : Given) (work : Work) (steps rows columns : ℕ) : Type 
   pub all-taken : steps ≡ length (planGiven given)
   pub few-rows : rows ≤ 256
   pub few-columns : columns ≤ 8
-  pub table-is : stackLeft (prepared given) [] (planGiven given) ≡ tableIn work 0 columns rows ∷ []
+  pub table-is : stackLeft (supplyGiven given) [] (planGiven given) ≡ tableIn work 0 columns rows ∷ []
   pub outcome : evaluation given .outcome ≡ finish steps (tableIn work 0 columns rows)
 
 -- What each answer means, of slices that held `work₀` and `trace₀` before and hold `work` and `trace` afterwards.

@@ -2,13 +2,15 @@
 use Prim.Native.Nat.{_-_}
 use mathlib.Core.Path.{_≡_}
 use native.Mathlib.Omega.{arith}
+use denote.Ref.{now}
 use Rattle.cells.specs.promises.Work.{work}
-use Rattle.apply.proofs.MakeLoop.{Making, make-begins, places, word-well, row-again}
+use Rattle.apply.proofs.RowMade.{newOf, rows-are}
+use Rattle.extension.proofs.Extending.{Making, make-begins, places, word-well, row-again}
 use Rattle.apply.proofs.making.make_rows.Statement.{statement}
 use Rattle.apply.proofs.making.make_rows.Tie as tie
 
 abbrev Inv-loop : tie.InvT-loop
-Inv-loop values₀ labels₀ top column transform from₀ to₀ row₀ values labels from to row = Making column transform top (work values₀ labels₀) (work values labels) from to row
+Inv-loop values₀ labels₀ top column transform from₀ to₀ row₀ values labels from to row = Making (newOf column transform) top (work values₀ labels₀) (work values labels) from to row
 
 abbrev μ-loop : tie.MeasureT-loop
 μ-loop values₀ labels₀ top column transform from₀ to₀ row₀ values labels from to row = top .rows - row
@@ -65,8 +67,9 @@ same-length-2 c = c .before .before .loop .inv .same .as-many-labels
 returns : tie.Need-returns Inv-loop μ-loop
 returns c =
     let l = c .before .before .loop in
-    let e : l .row ≡ c .before .before .before .before .args .top .rows = omega (arith, l .inv .row-le, c .if1 .left) in
-    record { written = rw (← e) (l .inv .written); kept = l .inv .same }
+    let a = c .before .before .before .before .args in
+    let e : l .row ≡ a .top .rows = omega (arith, l .inv .row-le, c .if1 .left) in
+    record { written = rw (rows-are (a .top) (a .column) (a .transform) (work (now (a .values)) (now (a .labels))), ← e) (l .inv .written); kept = l .inv .same }
 
 pub make-rows-spec : {M : Type 1} → statement M
 make-rows-spec =

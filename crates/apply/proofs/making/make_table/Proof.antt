@@ -1,8 +1,10 @@
 -- `apply::making::make_table` meets its contract. Assumes nothing.
 use borrow.Author.Needs.{needs}
+use denote.Ref.{now}
 use Rattle.cells.specs.promises.Work.{work}
 use Rattle.cells.proofs.CellLaws.{values-moved, labels-moved}
-use Rattle.apply.proofs.MakeLoop.{table-values, table-labels, table-down}
+use Rattle.apply.proofs.RowMade.{newOf, rows-are}
+use Rattle.extension.proofs.Extending.{table-values, table-labels, table-down}
 use Rattle.apply.proofs.making.make_table.Statement.{statement}
 use Rattle.apply.proofs.making.make_table.Tie as tie
 
@@ -31,10 +33,12 @@ returns c =
     let start = made .before .before .before .before in
     let a = start .args in
     let w = work (made .make-rows .last .0) (made .make-rows .last .1 .0) in
-    let v = table-values (a .column) (a .transform) (start .pre .0 .0) (start .pre .0 .1) (made .make-rows .ensures) in
-    let l = table-labels (a .column) (a .transform) (start .pre .0 .0) (start .pre .0 .1) (made .make-rows .ensures) in
+    let new = newOf (a .column) (a .transform) in
+    let same = rows-are (a .top) (a .column) (a .transform) (work (now (a .values)) (now (a .labels))) in
+    let v = table-values new (start .pre .0 .0) (start .pre .0 .1) same (made .make-rows .ensures) in
+    let l = table-labels new (start .pre .0 .0) (start .pre .0 .1) same (made .make-rows .ensures) in
     let m = moves .move-cells .ensures in
-    rw (values-moved w v l (m .0) (m .1 .0) (m .1 .1), labels-moved w v l (m .0) (m .1 .0) (m .1 .1)) (table-down (a .column) (a .transform) (start .pre .0 .0) (start .pre .0 .1) (made .make-rows .ensures))
+    rw (values-moved w v l (m .0) (m .1 .0) (m .1 .1), labels-moved w v l (m .0) (m .1 .0) (m .1 .1)) (table-down new (start .pre .0 .0) (start .pre .0 .1) same (made .make-rows .ensures))
 
 pub make-table-spec : {M : Type 1} → statement M
 make-table-spec =

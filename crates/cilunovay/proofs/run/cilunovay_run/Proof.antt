@@ -16,7 +16,7 @@ start c = c .before .before .before .before .before
 returns : tie.Need-returns
 returns c =
     let a = start (c .before) .args in
-    run-short (given (now (a .container))) (lent (now (a .values)) (now (a .labels)) (now (a .output)) (now (a .trace)) (now (a .text))) (now (a .answer)) (c .if1 .taken)
+    run-short (given (now (a .container)) (now (a .draws))) (lent (now (a .values)) (now (a .labels)) (now (a .output)) (now (a .trace)) (now (a .text))) (now (a .answer)) (c .if1 .taken)
 
 run-requires : tie.Need-run-requires
 run-requires c κs = search needs
@@ -77,7 +77,7 @@ returns-2 c =
     let run = c .before .before .before .before .before .before .before .before .before in
     let e = run .before .before .before .before .before .before in
     let a = start (e .before) .args in
-    run-long (given (now (a .container))) (lent (now (a .values)) (now (a .labels)) (now (a .output)) (now (a .trace)) (now (a .text))) (now (a .answer)) (e .if1 .left)
+    run-long (given (now (a .container)) (now (a .draws))) (lent (now (a .values)) (now (a .labels)) (now (a .output)) (now (a .trace)) (now (a .text))) (now (a .answer)) (e .if1 .left)
     (run .run .ensures) (c .run-numbers .ensures .0)
 
 pub cilunovay-run-spec : {M : Type 1} → statement M

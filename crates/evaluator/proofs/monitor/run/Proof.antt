@@ -17,14 +17,14 @@ abbrev start : tie.After-walk → tie.Start
 start c = c .before .before .before .before .before .before .before .before .before
 
 walked : (c : tie.After-walk) {answer : WalkAnswer} → c .walk .result ≡ answer → let a = start c .args in
-    Walked (given (now (a .container))) (work (now (a .values)) (now (a .labels))) (now (a .trace)) answer (work (c .walk .last .1 .0) (c .walk .last .1 .1 .0)) (c .walk .last .1 .1 .1 .0)
+    Walked (given (now (a .container)) (now (a .draws))) (work (now (a .values)) (now (a .labels))) (now (a .trace)) answer (work (c .walk .last .1 .1 .0) (c .walk .last .1 .1 .1 .0)) (c .walk .last .1 .1 .1 .1 .0)
 walked c e = let a = start c .args in
-    subst (λ (r : WalkAnswer). Walked (given (now (a .container))) (work (now (a .values)) (now (a .labels))) (now (a .trace)) r (work (c .walk .last .1 .0) (c .walk .last .1 .1 .0)) (c .walk .last .1 .1 .1 .0)) e (c .walk .ensures)
+    subst (λ (r : WalkAnswer). Walked (given (now (a .container)) (now (a .draws))) (work (now (a .values)) (now (a .labels))) (now (a .trace)) r (work (c .walk .last .1 .1 .0) (c .walk .last .1 .1 .1 .0)) (c .walk .last .1 .1 .1 .1 .0)) e (c .walk .ensures)
 
 returns : tie.Need-returns
 returns c =
     let a = c .before .before .before .before .before .args in
-    output-short (given (now (a .container))) (now (a .values)) (now (a .labels)) (now (a .output)) (now (a .trace)) (now (a .text)) (c .if1 .taken)
+    output-short (given (now (a .container)) (now (a .draws))) (now (a .values)) (now (a .labels)) (now (a .output)) (now (a .trace)) (now (a .text)) (c .if1 .taken)
 
 walk-requires : tie.Need-walk-requires
 walk-requires c κs = search needs
@@ -45,7 +45,7 @@ returns-2 : tie.Need-returns-2
 returns-2 c =
     let k = c .before .before .before .before .before .before .before in
     let a = start k .args in
-    work-short (given (now (a .container))) (now (a .values)) (now (a .labels)) (now (a .output)) (now (a .trace)) (now (a .text)) (k .before .before .before .before .if1 .left) (walked k (c .enum-told .given .1))
+    work-short (given (now (a .container)) (now (a .draws))) (now (a .values)) (now (a .labels)) (now (a .output)) (now (a .trace)) (now (a .text)) (k .before .before .before .before .if1 .left) (walked k (c .enum-told .given .1))
 
 enum-known-refusal : tie.Need-enum-known-refusal
 enum-known-refusal c = search needs
@@ -63,7 +63,7 @@ returns-3 : tie.Need-returns-3
 returns-3 c =
     let k = c .before .before .before .before .before .before .before .before in
     let a = start k .args in
-    input-refused (given (now (a .container))) (now (a .values)) (now (a .labels)) (now (a .output)) (now (a .trace)) (now (a .text)) (k .before .before .before .before .if1 .left) (c .before .refusal .given .0 .0) (walked k (c .before .refusal .given .1))
+    input-refused (given (now (a .container)) (now (a .draws))) (now (a .values)) (now (a .labels)) (now (a .output)) (now (a .trace)) (now (a .text)) (k .before .before .before .before .if1 .left) (c .before .refusal .given .0 .0) (walked k (c .before .refusal .given .1))
 
 enum-known-step : tie.Need-enum-known-step
 enum-known-step c = search needs
@@ -78,20 +78,20 @@ released-requires c κs =
     let a = start k .args in
     let long = k .before .before .before .before .if1 .left in
     let w = walked k (m .steps .given .1) in
-    let n = still-long (given (now (a .container))) (now (a .values)) (now (a .labels)) (now (a .output)) (now (a .trace)) (now (a .text)) long (w .0) in
-    (w .1 .few-rows, some-columns (given (now (a .container))) (now (a .values)) (now (a .labels)) (now (a .output)) (now (a .trace)) (now (a .text)) long w, w .1 .few-columns, n .0, n .1, long)
+    let n = still-long (given (now (a .container)) (now (a .draws))) (now (a .values)) (now (a .labels)) (now (a .output)) (now (a .trace)) (now (a .text)) long (w .0) in
+    (w .1 .few-rows, some-columns (given (now (a .container)) (now (a .draws))) (now (a .values)) (now (a .labels)) (now (a .output)) (now (a .trace)) (now (a .text)) long w, w .1 .few-columns, n .0, n .1, long)
 
 -- the arms meet
 evaluated : (c : tie.At-match-came) → let k = c .before .before .before .before .before .before in let a = start k .args in
-    Evaluated (given (now (a .container))) (work (now (a .values)) (now (a .labels))) (now (a .output)) (now (a .trace)) (now (a .text)) (runSays (c .match .answer))
-    (work (k .walk .last .1 .0) (k .walk .last .1 .1 .0)) (c .match .output) (k .walk .last .1 .1 .1 .0) (c .match .text)
+    Evaluated (given (now (a .container)) (now (a .draws))) (work (now (a .values)) (now (a .labels))) (now (a .output)) (now (a .trace)) (now (a .text)) (runSays (c .match .answer))
+    (work (k .walk .last .1 .1 .0) (k .walk .last .1 .1 .1 .0)) (c .match .output) (k .walk .last .1 .1 .1 .1 .0) (c .match .text)
 evaluated c =
     let k = c .before .before .before .before .before .before in
     let a = start k .args in
     let long = k .before .before .before .before .if1 .left in
     ⊎-elim
-    (λ w. rw (w .3, w .4, w .5) (step-refused (given (now (a .container))) (now (a .values)) (now (a .labels)) (now (a .output)) (now (a .trace)) (now (a .text)) long (w .1 .given .0 .0) (w .1 .given .0 .1 .0) (walked k (w .1 .given .1))))
-    (λ w. rw (w .11, w .12, w .13) (steps-finished (given (now (a .container))) (now (a .values)) (now (a .labels)) (now (a .output)) (now (a .trace)) (now (a .text)) long _ _ _ (walked k (w .1 .given .1)) (w .7 .ensures)))
+    (λ w. rw (w .3, w .4, w .5) (step-refused (given (now (a .container)) (now (a .draws))) (now (a .values)) (now (a .labels)) (now (a .output)) (now (a .trace)) (now (a .text)) long (w .1 .given .0 .0) (w .1 .given .0 .1 .0) (walked k (w .1 .given .1))))
+    (λ w. rw (w .11, w .12, w .13) (steps-finished (given (now (a .container)) (now (a .draws))) (now (a .values)) (now (a .labels)) (now (a .output)) (now (a .trace)) (now (a .text)) long _ _ _ (walked k (w .1 .given .1)) (w .7 .ensures)))
     (c .match .came)
 
 clear-memory-requires : tie.Need-clear-memory-requires
@@ -118,7 +118,7 @@ returns-4 c =
     let k = m .before .before .before .before .before .before in
     let a = start k .args in
     let z = c .before .before .before .clear-memory .ensures in
-    run-begun (given (now (a .container))) (now (a .values)) (now (a .labels)) (now (a .output)) (now (a .trace)) (now (a .text)) (k .before .before .before .before .if1 .left) (evaluated m) (z .told) (z .values) (z .labels)
+    run-begun (given (now (a .container)) (now (a .draws))) (now (a .values)) (now (a .labels)) (now (a .output)) (now (a .trace)) (now (a .text)) (k .before .before .before .before .if1 .left) (evaluated m) (z .told) (z .values) (z .labels)
 
 pub run-spec : {M : Type 1} → statement M
 run-spec =

@@ -48,7 +48,7 @@ returns : tie.Need-returns
 unfolding columnsExist madeColumns
 returns c =
     let a = c .before .before .before .before .args in
-    λ tables. unfit-done (Filter (a .column) (a .comparison) (a .operand)) tables _ _ (columns-misfit _ _ (sym (c .before .before .fit .ensures) ∙ c .enum-told .given .1))
+    λ supply. unfit-done (Filter (a .column) (a .comparison) (a .operand)) supply _ _ (columns-misfit _ _ (sym (c .before .before .fit .ensures) ∙ c .enum-told .given .1))
 
 live-table-requires : tie.Need-live-table-requires
 live-table-requires c κs = search needs
@@ -84,7 +84,7 @@ returns-2 c =
     let n = refused .before .before .before in
     let l = searched n in
     let a = start l .args in
-    λ tables. filter-refused (a .column) (a .comparison) (a .operand) tables (work (now (a .values)) (now (a .labels))) (a .stack) (fitted l .0) (parts l)
+    λ supply. filter-refused (a .column) (a .comparison) (a .operand) supply (work (now (a .values)) (now (a .labels))) (a .stack) (fitted l .0) (parts l)
     _ (n .before .read-by .ensures) _ _ (ap (placeSays 31 0) (sym (refused .before .row .given .1)) ∙ n .not-clear .ensures 31 0)
 
 same-length-2 : tie.Need-same-length-2
@@ -96,7 +96,7 @@ returns-3 c =
     let n = c .before .before in
     let l = searched n in
     let a = start l .args in
-    λ tables. absurd (filter-fits-still (a .column) (a .comparison) (a .operand) tables (work (now (a .values)) (now (a .labels))) (a .stack) (fitted l .0) (parts l)
+    λ supply. absurd (filter-fits-still (a .column) (a .comparison) (a .operand) supply (work (now (a .values)) (now (a .labels))) (a .stack) (fitted l .0) (parts l)
     _ (n .before .read-by .ensures) (ap (placeSays 31 0) (sym (c .enum-told2 .given .1)) ∙ n .not-clear .ensures 31 0))
 
 same-length-3 : tie.Need-same-length-3
@@ -112,7 +112,7 @@ returns-4 c =
     let n = f .before .before .before .before .before in
     let l = searched n in
     let a = start l .args in
-    λ tables. rw (c .with-table .ensures) (filter-made (a .column) (a .comparison) (a .operand) tables (work (now (a .values)) (now (a .labels))) (a .stack) (fitted l .0) (parts l)
+    λ supply. rw (c .with-table .ensures) (filter-made (a .column) (a .comparison) (a .operand) supply (work (now (a .values)) (now (a .labels))) (a .stack) (fitted l .0) (parts l)
     _ (n .before .read-by .ensures) _ (ap (placeSays 31 0) (sym (f .before .before .before .enum-told3 .given .1)) ∙ n .not-clear .ensures 31 0) (f .filter-rows .ensures))
 
 pub filter-spec : {M : Type 1} → statement M

@@ -10,6 +10,7 @@ use Rattle.cells.specs.promises.Work.{work}
 use Rattle.group_refusal.specs.promises.Refusals.{groupSays}
 use Rattle.memory.specs.promises.Stack.{widthsTo}
 use Rattle.memory.specs.promises.Steps.{stepSays, fits}
+use Rattle.plan.specs.Supply.{supplied}
 use Rattle.plan.specs.Verdict.{fine}
 use Rattle.plan.specs.Widths.{columnsExist, madeColumns}
 use Rattle.plan.specs.declared.Step.the-variants.{Group}
@@ -48,8 +49,8 @@ returns : tie.Need-returns
 unfolding columnsExist madeColumns
 returns c =
     let a = c .before .before .before .before .args in
-    λ tables. unfit-done (Group (a .keys) (a .aggregate) (a .column)) tables _ _
-    (misfit-first (a .keys) (a .aggregate) (a .column) tables (work (now (a .values)) (now (a .labels))) (a .stack) (columns-misfit _ _ (sym (c .before .before .fit .ensures) ∙ c .enum-told .given .1)))
+    λ supply. unfit-done (Group (a .keys) (a .aggregate) (a .column)) supply _ _
+    (misfit-first (a .keys) (a .aggregate) (a .column) supply (work (now (a .values)) (now (a .labels))) (a .stack) (columns-misfit _ _ (sym (c .before .before .fit .ensures) ∙ c .enum-told .given .1)))
 
 live-table-requires : tie.Need-live-table-requires
 live-table-requires c κs = search needs
@@ -70,7 +71,7 @@ returns-2 c =
     let r = refused .before in
     let l = tested r in
     let a = start l .args in
-    λ tables. refused-group (a .keys) (a .aggregate) (a .column) tables (work (now (a .values)) (now (a .labels))) (a .stack) (fitted l .0) (parts l)
+    λ supply. refused-group (a .keys) (a .aggregate) (a .column) supply (work (now (a .values)) (now (a .labels))) (a .stack) (fitted l .0) (parts l)
     (r .refusal .result) (refused .match2 .keys2) (r .refusal .ensures)
 
 grouping-requires : tie.Need-grouping-requires
@@ -92,7 +93,7 @@ replace-requires c κs =
     let a = start l .args in
     let w = work (now (a .values)) (now (a .labels)) in
     rw (g .grouping .ensures)
-    (source-is (a .keys) (a .aggregate) (a .column) [] w (a .stack) (fitted l .0) (parts l), allowed (a .keys) (a .aggregate) (a .column) [] w (a .stack) (fitted l .0) (parts l) (fine-is t))
+    (source-is (a .keys) (a .aggregate) (a .column) (supplied [] []) w (a .stack) (fitted l .0) (parts l), allowed (a .keys) (a .aggregate) (a .column) (supplied [] []) w (a .stack) (fitted l .0) (parts l) (fine-is t))
 
 with-table-requires : tie.Need-with-table-requires
 with-table-requires c κs = search needs
@@ -111,8 +112,8 @@ returns-3 c =
     let t = g .before in
     let l = tested (clear t) in
     let a = start l .args in
-    λ tables. rw (c .with-table .ensures)
-    (made-group (a .keys) (a .aggregate) (a .column) tables (work (now (a .values)) (now (a .labels))) (a .stack) (fitted l .0) (parts l) (fine-is t) (rw (g .grouping .ensures) at (p .replace .ensures)))
+    λ supply. rw (c .with-table .ensures)
+    (made-group (a .keys) (a .aggregate) (a .column) supply (work (now (a .values)) (now (a .labels))) (a .stack) (fitted l .0) (parts l) (fine-is t) (rw (g .grouping .ensures) at (p .replace .ensures)))
 
 pub group-spec : {M : Type 1} → statement M
 group-spec =

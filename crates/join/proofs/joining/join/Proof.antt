@@ -58,7 +58,7 @@ returns : tie.Need-returns
 unfolding columnsExist madeColumns
 returns c =
     let a = c .before .before .before .before .args in
-    λ tables. unfit-done (Join (a .left) (a .right)) tables _ _ (columns-misfit _ _ (sym (c .before .before .fit .ensures) ∙ c .enum-told .given .1))
+    λ supply. unfit-done (Join (a .left) (a .right)) supply _ _ (columns-misfit _ _ (sym (c .before .before .fit .ensures) ∙ c .enum-told .given .1))
 
 live-table-requires : tie.Need-live-table-requires
 live-table-requires c κs = search needs
@@ -100,7 +100,7 @@ returns-2 c =
     let n = refused .before .before .before in
     let l = searched n in
     let a = start l .args in
-    λ tables. key-done (a .left) (a .right) tables (work (now (a .values)) (now (a .labels))) (a .stack) (fitted l .0) (parts l) (ap (placeSays 31 0) (sym (refused .before .row .given .1)) ∙ keys n)
+    λ supply. key-done (a .left) (a .right) supply (work (now (a .values)) (now (a .labels))) (a .stack) (fitted l .0) (parts l) (ap (placeSays 31 0) (sym (refused .before .row .given .1)) ∙ keys n)
 
 same-length-2 : tie.Need-same-length-2
 same-length-2 c = search needs
@@ -121,7 +121,7 @@ returns-4 c =
     let n = m .before .before .before .before .before in
     let l = searched n in
     let a = start l .args in
-    λ tables. rows-made-done (a .left) (a .right) tables (work (now (a .values)) (now (a .labels))) (a .stack) (fitted l .0) (parts l)
+    λ supply. rows-made-done (a .left) (a .right) supply (work (now (a .values)) (now (a .labels))) (a .stack) (fitted l .0) (parts l)
     (ap (placeSays 31 0) (sym (m .before .before .before .enum-told3 .given .1)) ∙ keys n) (rw (n .before .before .before .side .ensures, n .before .before .side2 .ensures) at (m .make-table .ensures))
 
 pub join-spec : {M : Type 1} → statement M

@@ -39,7 +39,7 @@ enum-told c = search needs
 
 returns : tie.Need-returns
 unfolding columnsExist madeColumns
-returns c = λ tables. unfit-done (Keep (c .before .before .before .before .args .mask)) tables _ _ (columns-misfit _ _ (sym (c .before .before .fit .ensures) ∙ c .enum-told .given .1))
+returns c = λ supply. unfit-done (Keep (c .before .before .before .before .args .mask)) supply _ _ (columns-misfit _ _ (sym (c .before .before .fit .ensures) ∙ c .enum-told .given .1))
 
 live-table-requires : tie.Need-live-table-requires
 live-table-requires c κs = search needs
@@ -61,7 +61,7 @@ unfolding columnsExist madeColumns
 returns-2 c =
     let l = c .before .before .before .before .before .before .before in
     let a = start l .args in
-    λ tables. rw (c .with-table .ensures) (keep-made (a .mask) tables (work (now (a .values)) (now (a .labels))) (a .stack) (fitted l .0) (parts l) (c .before .before .before .before .keep-rows .ensures))
+    λ supply. rw (c .with-table .ensures) (keep-made (a .mask) supply (work (now (a .values)) (now (a .labels))) (a .stack) (fitted l .0) (parts l) (c .before .before .before .before .keep-rows .ensures))
 
 pub keep-spec : {M : Type 1} → statement M
 keep-spec =

@@ -70,6 +70,18 @@ apply-of-requires c κs = search needs
 group-of-requires : tie.Need-group-of-requires
 group-of-requires c κs = search needs
 
+add-zeros-9 : tie.Need-add-zeros-9
+add-zeros-9 c = search needs
+
+add-zeros-10 : tie.Need-add-zeros-10
+add-zeros-10 c = search needs
+
+zeros-requires-5 : tie.Need-zeros-requires-5
+zeros-requires-5 c κs = search needs
+
+when-requires-5 : tie.Need-when-requires-5
+when-requires-5 c κs = search needs
+
 returns-2 : tie.Need-returns-2
 returns-2 c =
     rw (
@@ -112,18 +124,27 @@ returns-8 : tie.Need-returns-8
 returns-8 c = rw (kind-is (c .before .before .before .before .args .f) 7 (c .before .before .if1 .left) (c .before .match .keys7)) (c .group-of .ensures)
 
 returns-9 : tie.Need-returns-9
-unfolding stepOf
 returns-9 c =
+    rw (
+      kind-is (c .before .before .before .before .before .before .before .args .f) 8 (c .before .before .before .before .before .if1 .left)
+          (c .before .before .before .before .match .keys8),
+      ← c .before .zeros5 .ensures,
+    ) (c .when5 .ensures)
+
+returns-10 : tie.Need-returns-10
+unfolding stepOf
+returns-10 c =
     let a = c .before .before .before .args in
     rw (
       eq-eqb _ 0 (c .before .if1 .left),
-      ne-eqb (a .f .kind) 1 (c .match .rest .0 .0 .0 .0 .0 .0 .1),
-      ne-eqb (a .f .kind) 2 (c .match .rest .0 .0 .0 .0 .0 .1),
-      ne-eqb (a .f .kind) 3 (c .match .rest .0 .0 .0 .0 .1),
-      ne-eqb (a .f .kind) 4 (c .match .rest .0 .0 .0 .1),
-      ne-eqb (a .f .kind) 5 (c .match .rest .0 .0 .1),
-      ne-eqb (a .f .kind) 6 (c .match .rest .0 .1),
-      ne-eqb (a .f .kind) 7 (c .match .rest .1),
+      ne-eqb (a .f .kind) 1 (c .match .rest .0 .0 .0 .0 .0 .0 .0 .1),
+      ne-eqb (a .f .kind) 2 (c .match .rest .0 .0 .0 .0 .0 .0 .1),
+      ne-eqb (a .f .kind) 3 (c .match .rest .0 .0 .0 .0 .0 .1),
+      ne-eqb (a .f .kind) 4 (c .match .rest .0 .0 .0 .0 .1),
+      ne-eqb (a .f .kind) 5 (c .match .rest .0 .0 .0 .1),
+      ne-eqb (a .f .kind) 6 (c .match .rest .0 .0 .1),
+      ne-eqb (a .f .kind) 7 (c .match .rest .0 .1),
+      ne-eqb (a .f .kind) 8 (c .match .rest .1),
     )
 
 pub step-of-spec : {M : Type 1} → statement M
@@ -151,6 +172,10 @@ step-of-spec =
     when-requires-4
     apply-of-requires
     group-of-requires
+    add-zeros-9
+    add-zeros-10
+    zeros-requires-5
+    when-requires-5
     returns-2
     returns-3
     returns-4
@@ -158,4 +183,5 @@ step-of-spec =
     returns-6
     returns-7
     returns-8
-    returns-9)
+    returns-9
+    returns-10)

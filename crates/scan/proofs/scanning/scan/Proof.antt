@@ -32,7 +32,7 @@ scan-fits-requires : tie.Need-scan-fits-requires
 scan-fits-requires c κs = search needs
 
 returns : tie.Need-returns
-returns c = unfit-done (Scan (c .before .before .before .before .args .table)) _ _ _ (sym (c .before .scan-fits .ensures .0) ∙ not-true _ (c .if1 .taken))
+returns c = λ draws. unfit-done (Scan (c .before .before .before .before .args .table)) _ _ _ (sym (c .before .scan-fits .ensures .0) ∙ not-true _ (c .if1 .taken))
 
 add-part : tie.Need-add-part
 add-part c = omega (arith, c .before .scan-fits .ensures .1 (not-false _ (c .if1 .left)))

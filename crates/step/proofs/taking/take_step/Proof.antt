@@ -45,6 +45,12 @@ enum-known-step-6 c = search needs
 group-requires : tie.Need-group-requires
 group-requires c κs = search needs
 
+enum-known-step-7 : tie.Need-enum-known-step-7
+enum-known-step-7 c = search needs
+
+noise-requires : tie.Need-noise-requires
+noise-requires c κs = search needs
+
 same-length : tie.Need-same-length
 same-length c = search needs
 
@@ -52,7 +58,7 @@ same-length-2 : tie.Need-same-length-2
 same-length-2 c = search needs
 
 returns : tie.Need-returns
-returns c = rw (c .before .before .before .before .before .before .before .step .given .1) (c .before .before .before .scan .ensures)
+returns c = rw (c .before .before .before .before .before .before .before .step .given .1) (c .before .before .before .scan .ensures _)
 
 same-length-3 : tie.Need-same-length-3
 same-length-3 c = search needs
@@ -108,6 +114,15 @@ same-length-14 c = search needs
 returns-7 : tie.Need-returns-7
 returns-7 c = rw (c .before .before .before .before .before .before .before .step6 .given .1) (c .before .before .before .group .ensures _)
 
+same-length-15 : tie.Need-same-length-15
+same-length-15 c = search needs
+
+same-length-16 : tie.Need-same-length-16
+same-length-16 c = search needs
+
+returns-8 : tie.Need-returns-8
+returns-8 c = rw (c .before .before .before .before .before .before .before .step7 .given .1) (c .before .before .before .noise .ensures _)
+
 pub take-step-spec : {M : Type 1} → statement M
 take-step-spec =
     tie.close
@@ -126,6 +141,8 @@ take-step-spec =
     apply-requires
     enum-known-step-6
     group-requires
+    enum-known-step-7
+    noise-requires
     same-length
     same-length-2
     returns
@@ -146,4 +163,7 @@ take-step-spec =
     returns-6
     same-length-13
     same-length-14
-    returns-7)
+    returns-7
+    same-length-15
+    same-length-16
+    returns-8)

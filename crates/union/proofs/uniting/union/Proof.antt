@@ -48,7 +48,7 @@ enum-told c = search needs
 
 returns : tie.Need-returns
 unfolding columnsExist madeColumns
-returns c = λ tables. unfit-done Union tables _ _ (columns-misfit _ _ (sym (c .before .before .fit .ensures) ∙ c .enum-told .given .1))
+returns c = λ supply. unfit-done Union supply _ _ (columns-misfit _ _ (sym (c .before .before .fit .ensures) ∙ c .enum-told .given .1))
 
 live-table-requires : tie.Need-live-table-requires
 live-table-requires c κs = search needs
@@ -65,7 +65,7 @@ returns-2 c =
     let refused = c in
     let l = refused .before .before .before in
     let a = start l .args in
-    λ tables. union-many tables (work (now (a .values)) (now (a .labels))) (a .stack) (fitted l .0) (parts l) (refused .if1 .taken)
+    λ supply. union-many supply (work (now (a .values)) (now (a .labels))) (a .stack) (fitted l .0) (parts l) (refused .if1 .taken)
 
 mul-move-cells : tie.Need-mul-move-cells
 mul-move-cells c = omega (arith, parts (tested (c .before .before .before)) .cells-left)
@@ -100,11 +100,11 @@ returns-3 c =
     let a = start l .args in
     let w = work (now (a .values)) (now (a .labels)) in
     let m = moves .move-cells .ensures in
-    λ tables.
-    let v = in-values tables w (a .stack) (fitted l .0) (parts l) in
-    let k = in-labels tables w (a .stack) (fitted l .0) (parts l) in
+    λ supply.
+    let v = in-values supply w (a .stack) (fitted l .0) (parts l) in
+    let k = in-labels supply w (a .stack) (fitted l .0) (parts l) in
     rw (values-moved w v k (m .0) (m .1 .0) (m .1 .1), labels-moved w v k (m .0) (m .1 .0) (m .1 .1), c .with-table .ensures)
-    (union-made tables w (a .stack) (fitted l .0) (parts l) (e .if1 .left))
+    (union-made supply w (a .stack) (fitted l .0) (parts l) (e .if1 .left))
 
 pub union-spec : {M : Type 1} → statement M
 union-spec =

@@ -1,6 +1,7 @@
 -- `walk::steps::step_number` meets its contract. Assumes nothing.
 use Rattle.walk.proofs.OneStep.{found-step, found-nothing}
 use borrow.Author.Needs.{needs}
+use Rattle.demands.specs.Given.{given}
 use Rattle.walk.proofs.steps.step_number.Statement.{statement}
 use Rattle.walk.proofs.steps.step_number.Tie as tie
 
@@ -17,10 +18,10 @@ enum-told : tie.Need-enum-told
 enum-told c = search needs
 
 returns : tie.Need-returns
-returns c = λ ok h. found-step _ _ ok h (c .before .before .before .before .part .ensures) (c .before .before .before .step-at .ensures) (c .before .step .given .1)
+returns c = λ draws ok h. found-step (given _ draws) _ ok h (c .before .before .before .before .part .ensures) (c .before .before .before .step-at .ensures) (c .before .step .given .1)
 
 returns-2 : tie.Need-returns-2
-returns-2 c = λ ok h. absurd (found-nothing _ _ ok h (c .before .before .before .part .ensures) (c .before .before .step-at .ensures) (c .enum-told .given .1))
+returns-2 c = λ draws ok h. absurd (found-nothing (given _ draws) _ ok h (c .before .before .before .part .ensures) (c .before .before .step-at .ensures) (c .enum-told .given .1))
 
 pub step-number-spec : {M : Type 1} → statement M
 step-number-spec =

@@ -1,26 +1,32 @@
 -- `walk::steps::take_steps` meets its contract. Assumes nothing.
-use Prim.Native.Nat.{_-_, _≤_, _<_}
-use mathlib.Core.Path.{_≡_, refl, _∙_}
+use Prim.Native.Nat.{_-_, _^_, _≤_, _<_}
+use mathlib.Core.Path.{_≡_, refl, ap₂, _∙_}
 use native.Mathlib.Omega.{arith}
 use denote.Ref.{now}
-use lib.ListN.{length}
+use lib.ListN.{length, take, drop, length-drop}
+use lib.Seq.{take-all}
 use borrow.Author.Needs.{needs}
 use Rattle.cells.specs.promises.Work.{work, room}
-use Rattle.demands.specs.Given.{given, planGiven}
+use Rattle.demands.specs.Given.{Given, given, planGiven}
+use Rattle.memory.specs.promises.Stack.{stackIn}
+use Rattle.plan.specs.Steps.{drawsUsed}
+use Rattle.plan.specs.Table.{top}
+use Rattle.step.specs.promises.Taking.{Taken}
 use Rattle.walk.specs.promises.Steady.{Steady}
 use Rattle.walk.specs.promises.Walk.{stepNumber, Going}
 use Rattle.walk.proofs.LineMeaning.{longer}
 use Rattle.walk.proofs.OneStep.{done-so, some-made, still-ready, line-made}
-use Rattle.walk.proofs.Walking.{count-is, go-begin, go-room, go-steady, go-on, go-fits, go-refused, go-end}
+use Rattle.walk.proofs.Walking.{count-is, top-rows, go-begin, go-room, go-steady, go-drawn, go-on, go-fits, go-refused, go-end}
 use Rattle.walk.proofs.steps.take_steps.Statement.{statement}
 use Rattle.walk.proofs.steps.take_steps.Tie as tie
 
 abbrev Inv-loop : tie.InvT-loop
-Inv-loop container values₀ labels₀ trace₀ count stack₀ index₀ values labels trace stack index =
-    (index ≤ count) × (count ≡ length (planGiven (given container))) × Going (given container) (work values₀ labels₀) trace₀ index (work values labels) trace stack × (length trace ≡ length trace₀)
+Inv-loop container draws values₀ labels₀ trace₀ count stack₀ index₀ used₀ values labels trace stack index used =
+    (index ≤ count) × (count ≡ length (planGiven (given container draws)))
+    × Going (given container draws) (work values₀ labels₀) trace₀ index used (work values labels) trace stack × (length trace ≡ length trace₀)
 
 abbrev μ-loop : tie.MeasureT-loop
-μ-loop container values₀ labels₀ trace₀ count stack₀ index₀ values labels trace stack index = count - index
+μ-loop container draws values₀ labels₀ trace₀ count stack₀ index₀ used₀ values labels trace stack index used = count - index
 
 part-requires : tie.Need-part-requires Inv-loop μ-loop
 part-requires c κs = search needs
@@ -34,34 +40,62 @@ no-tables-requires c κs = search needs
 loop-holds : tie.Need-loop-holds Inv-loop μ-loop
 loop-holds c =
     let s = c .before .before .before .before .before .before in
-    (omega arith, count-is (given (now (s .args .container))) (s .pre .0) (c .before .before .part .ensures) (c .before .step-count .ensures) .0, go-begin (s .pre .0) (s .pre .1) (c .no-tables .ensures), refl)
+    (omega arith, count-is (given (now (s .args .container)) (now (s .args .draws))) (s .pre .0) (c .before .before .part .ensures) (c .before .step-count .ensures) .0, go-begin (s .pre .0) (s .pre .1) (c .no-tables .ensures), refl)
 
 -- the loop is at a step of the plan
 abbrev start : tie.In-loop Inv-loop μ-loop → tie.Start Inv-loop μ-loop
 start c = c .before .before .before .before .before .before .before .before
 
-inside : (c : tie.In-loop Inv-loop μ-loop) → c .before .loop .index < length (planGiven (given (now (start c .args .container))))
+abbrev given-to : tie.In-loop Inv-loop μ-loop → Given
+given-to c = given (now (start c .args .container)) (now (start c .args .draws))
+
+inside : (c : tie.In-loop Inv-loop μ-loop) → c .before .loop .index < length (planGiven (given-to c))
 inside c = omega (arith, c .loop-test .taken, c .before .loop .inv .1)
 
 -- the step was taken
 abbrev turn : tie.After-take-step Inv-loop μ-loop → tie.In-loop Inv-loop μ-loop
-turn c = c .before .before .before .before
+turn c = c .before .before .before .before .before .before
 
-known : (c : tie.After-take-step Inv-loop μ-loop) → c .before .before .before .step-number .result ≡ stepNumber (given (now (start (turn c) .args .container))) (turn c .before .loop .index)
-known c = c .before .before .before .step-number .ensures (start (turn c) .pre .0) (inside (turn c))
+known : (c : tie.After-take-step Inv-loop μ-loop) → c .before .before .before .before .before .step-number .result ≡ stepNumber (given-to (turn c)) (turn c .before .loop .index)
+known c = c .before .before .before .before .before .step-number .ensures (now (start (turn c) .args .draws)) (start (turn c) .pre .0) (inside (turn c))
 
 going : (c : tie.In-loop Inv-loop μ-loop)
-    → Going (given (now (start c .args .container))) (work (now (start c .args .values)) (now (start c .args .labels))) (now (start c .args .trace)) (c .before .loop .index)
+    → Going (given-to c) (work (now (start c .args .values)) (now (start c .args .labels))) (now (start c .args .trace)) (c .before .loop .index) (c .before .loop .used)
     (work (c .before .loop .values) (c .before .loop .labels)) (c .before .loop .trace) (c .before .loop .stack)
 going c = c .before .loop .inv .2
 
 steady : (c : tie.In-loop Inv-loop μ-loop)
-    → Steady (given (now (start c .args .container))) (stepNumber (given (now (start c .args .container))) (c .before .loop .index))
+    → Steady (given-to c) (stepNumber (given-to c) (c .before .loop .index))
     (work (c .before .loop .values) (c .before .loop .labels)) (c .before .loop .stack)
 steady c = go-steady (start c .pre .0) (start c .pre .1) (going c) (inside c)
 
+-- with the draws that are left
+taken : (c : tie.After-take-step Inv-loop μ-loop) → let i = turn c in let g = given-to i in
+    Taken (g .container) (drop (i .before .loop .used) (g .draws)) (c .before .before .before .before .before .step-number .result)
+    (work (i .before .loop .values) (i .before .loop .labels)) (i .before .loop .stack) (c .take-step .result) (work (c .take-step .last .1 .1 .0) (c .take-step .last .1 .1 .1 .0))
+taken c =
+    let draws = now (start (turn c) .args .draws) in
+    let used = turn c .before .loop .used in
+    let rest : take (length draws - used) (drop used draws) ≡ drop used draws = take-all (length draws - used) (drop used draws) (omega (arith, length-drop used draws)) in
+    rw rest at (c .take-step .ensures)
+
 step-number-requires : tie.Need-step-number-requires Inv-loop μ-loop
 step-number-requires c κs = search needs
+
+live-table-requires : tie.Need-live-table-requires Inv-loop μ-loop
+live-table-requires c κs = search needs
+
+mul-take-step : tie.Need-mul-take-step Inv-loop μ-loop
+mul-take-step c = search needs
+
+sub-take-step : tie.Need-sub-take-step Inv-loop μ-loop
+sub-take-step c = going (c .before .before) .drawn
+
+part-take-step-start : tie.Need-part-take-step-start Inv-loop μ-loop
+part-take-step-start c = going (c .before .before) .drawn
+
+part-take-step-end : tie.Need-part-take-step-end Inv-loop μ-loop
+part-take-step-end c = search needs
 
 take-step-requires : tie.Need-take-step-requires Inv-loop μ-loop
 take-step-requires c κs = search needs
@@ -82,7 +116,7 @@ returns : tie.Need-returns Inv-loop μ-loop
 returns c =
     let k = c .before .before .before .before .before .before in
     let i = turn k in
-    go-refused (start i .pre .0) (start i .pre .1) (going i) (inside i) (done-so _ (steady i) (known k) (k .take-step .ensures)) _ (c .before .answer .given .1)
+    go-refused (start i .pre .0) (start i .pre .1) (going i) (inside i) (done-so _ (i .before .loop .used) (steady i) (known k) (taken k)) _ (c .before .answer .given .1)
 
 enum-told : tie.Need-enum-told Inv-loop μ-loop
 enum-told c = search needs
@@ -91,7 +125,7 @@ never-requires : tie.Need-never-requires Inv-loop μ-loop
 never-requires c κs =
     let k = c .before .before .before .before .before in
     let i = turn k in
-    go-fits (start i .pre .0) (start i .pre .1) (going i) (inside i) (done-so _ (steady i) (known k) (k .take-step .ensures)) (c .enum-told .given .1)
+    go-fits (start i .pre .0) (start i .pre .1) (going i) (inside i) (done-so _ (i .before .loop .used) (steady i) (known k) (taken k)) (c .enum-told .given .1)
 
 same-length-4 : tie.Need-same-length-4 Inv-loop μ-loop
 same-length-4 c = search needs
@@ -114,35 +148,62 @@ write-step-requires c κs =
     let k = m .before .before .before .before .before in
     let i = turn k in
     let made = m .enum-told2 .given .1 in (
-      some-made _ (steady i) (known k) (k .take-step .ensures) made,
+      some-made _ (i .before .loop .used) (steady i) (known k) (taken k) made,
       go-room (start i .pre .0) (start i .pre .1) (going i) (inside i),
-      longer room (omega arith) (still-ready _ (steady i) (known k) (k .take-step .ensures) made),
+      longer room (omega arith) (still-ready _ (i .before .loop .used) (steady i) (known k) (taken k) made),
     )
+
+draws-used-requires : tie.Need-draws-used-requires Inv-loop μ-loop
+draws-used-requires c κs = search needs
+
+-- from the end of a turn: where its step was taken, and what it used
+abbrev made-is : tie.After-draws-used Inv-loop μ-loop → tie.After-enum-told2 Inv-loop μ-loop
+made-is c = c .before .before .before .before .before .before .before
+
+abbrev ended : tie.After-draws-used Inv-loop μ-loop → tie.After-take-step Inv-loop μ-loop
+ended c = made-is c .before .before .before .before .before
+
+used-is : (c : tie.After-draws-used Inv-loop μ-loop) → let k = ended c in let i = turn k in
+    c .draws-used .result ≡ drawsUsed (stepNumber (given-to i) (i .before .loop .index)) (length (top (stackIn (work (i .before .loop .values) (i .before .loop .labels)) (i .before .loop .stack)) .rows))
+used-is c =
+    let k = ended c in
+    let i = turn k in
+    c .draws-used .ensures ∙ ap₂ drawsUsed (known k) (top-rows (work (i .before .loop .values) (i .before .loop .labels)) (i .before .loop .stack) (going i .is-ready) (k .before .before .before .before .live-table .ensures))
+
+-- the number of draws is one of the machine's
+few-draws : (c : tie.Start Inv-loop μ-loop) → length (now (c .args .draws)) < 2 ^ 64
+few-draws c = search needs
+
+add-used : tie.Need-add-used Inv-loop μ-loop
+add-used c =
+    let k = ended c in
+    let i = turn k in
+    let few = go-drawn (start i .pre .0) (start i .pre .1) (going i) (inside i) (done-so _ (i .before .loop .used) (steady i) (known k) (taken k)) (made-is c .enum-told2 .given .1) _ (used-is c) in
+    omega (arith, few, few-draws (start i))
 
 add-index : tie.Need-add-index Inv-loop μ-loop
 add-index c =
-    let i = c .before .before .before .before .before .before .before .before .before .before .before .before .before .before .before in
-    let n = count-is (given (now (start i .args .container))) (start i .pre .0) (i .before .before .before .before .part .ensures) (i .before .before .before .step-count .ensures) in
+    let i = turn (ended c) in
+    let n = count-is (given-to i) (start i .pre .0) (i .before .before .before .before .part .ensures) (i .before .before .before .step-count .ensures) in
     omega (arith, i .loop-test .taken, n .1)
 
 loop-less : tie.Need-loop-less Inv-loop μ-loop
-loop-less c = omega (arith, c .before .before .before .before .before .before .before .before .before .before .before .before .before .before .before .loop-test .taken)
+loop-less c = omega (arith, turn (ended c) .loop-test .taken)
 
 loop-again : tie.Need-loop-again Inv-loop μ-loop
 loop-again c =
-    let m = c .before .before .before .before .before .before in
-    let k = m .before .before .before .before .before in
+    let k = ended c in
     let i = turn k in
-    let made = m .enum-told2 .given .1 in
-    let line = line-made _ (steady i) (known k) (k .take-step .ensures) made _ (c .before .before .write-step .ensures) in (
+    let made = made-is c .enum-told2 .given .1 in
+    let line = line-made _ (i .before .loop .used) (steady i) (known k) (taken k) made _ (c .before .before .before .write-step .ensures) in (
       omega (arith, i .loop-test .taken),
       i .before .loop .inv .1,
-      go-on (start i .pre .0) (start i .pre .1) (going i) (inside i) (done-so _ (steady i) (known k) (k .take-step .ensures)) _ made line,
+      go-on (start i .pre .0) (start i .pre .1) (going i) (inside i) (done-so _ (i .before .loop .used) (steady i) (known k) (taken k)) made _ _ (used-is c) line,
       search needs,
     )
 
-live-table-requires : tie.Need-live-table-requires Inv-loop μ-loop
-live-table-requires c κs = search needs
+live-table-requires-2 : tie.Need-live-table-requires-2 Inv-loop μ-loop
+live-table-requires-2 c κs = search needs
 
 same-length-7 : tie.Need-same-length-7 Inv-loop μ-loop
 same-length-7 c = search needs
@@ -157,7 +218,7 @@ returns-3 : tie.Need-returns-3 Inv-loop μ-loop
 returns-3 c =
     let e = c .before .before in
     let s = e .before .before .before .before .before .before .before in
-    go-end (s .pre .0) (s .pre .1) (e .loop .inv .2) _ (e .loop .inv .1) (omega (arith, e .loop .inv .0, c .before .loop-test .left)) (c .live-table .ensures)
+    go-end (s .pre .0) (s .pre .1) (e .loop .inv .2) _ (e .loop .inv .1) (omega (arith, e .loop .inv .0, c .before .loop-test .left)) (c .live-table2 .ensures)
 
 pub take-steps-spec : {M : Type 1} → statement M
 take-steps-spec =
@@ -170,6 +231,11 @@ take-steps-spec =
     no-tables-requires
     loop-holds
     step-number-requires
+    live-table-requires
+    mul-take-step
+    sub-take-step
+    part-take-step-start
+    part-take-step-end
     take-step-requires
     enum-known-answer
     same-length
@@ -184,10 +250,12 @@ take-steps-spec =
     returns-2
     enum-told-2
     write-step-requires
+    draws-used-requires
+    add-used
     add-index
     loop-less
     loop-again
-    live-table-requires
+    live-table-requires-2
     same-length-7
     same-length-8
     same-length-9

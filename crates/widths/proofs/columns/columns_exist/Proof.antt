@@ -37,6 +37,9 @@ enum-known-step-6 c = search needs
 mask-fits-requires-2 : tie.Need-mask-fits-requires-2
 mask-fits-requires-2 c κs = search needs
 
+enum-known-step-7 : tie.Need-enum-known-step-7
+enum-known-step-7 c = search needs
+
 returns : tie.Need-returns
 unfolding columnsExist
 returns c = rw (c .before .step .given .1)
@@ -65,6 +68,10 @@ returns-7 : tie.Need-returns-7
 unfolding columnsExist
 returns-7 c = rw (c .before .before .step6 .given .1, c .mask-fits2 .ensures)
 
+returns-8 : tie.Need-returns-8
+unfolding columnsExist
+returns-8 c = rw (c .before .step7 .given .1)
+
 pub columns-exist-spec : {M : Type 1} → statement M
 columns-exist-spec =
     tie.close
@@ -80,10 +87,12 @@ columns-exist-spec =
     transform-within-requires
     enum-known-step-6
     mask-fits-requires-2
+    enum-known-step-7
     returns
     returns-2
     returns-3
     returns-4
     returns-5
     returns-6
-    returns-7)
+    returns-7
+    returns-8)

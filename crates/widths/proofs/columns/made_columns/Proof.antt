@@ -70,6 +70,12 @@ kept-count-requires-2 c κs = search needs
 add-result-3 : tie.Need-add-result-3
 add-result-3 c = omega (arith, c .kept-count2 .ensures, kept-le (c .before .before .step3 .given .0 .0) (c .before .before .before .before .before .args .right))
 
+enum-told-5 : tie.Need-enum-told-5
+enum-told-5 c = search needs
+
+add-result-4 : tie.Need-add-result-4
+add-result-4 c = search needs
+
 returns : tie.Need-returns
 unfolding madeColumns
 returns c = rw (c .before .before .step .given .1)
@@ -98,6 +104,10 @@ returns-7 : tie.Need-returns-7
 unfolding madeColumns
 returns-7 c = rw (c .before .before .step3 .given .1, c .kept-count2 .ensures)
 
+returns-8 : tie.Need-returns-8
+unfolding madeColumns
+returns-8 c = rw (c .enum-told5 .given .1)
+
 pub made-columns-spec : {M : Type 1} → statement M
 made-columns-spec =
     tie.close
@@ -117,10 +127,13 @@ made-columns-spec =
     enum-known-step-3
     kept-count-requires-2
     add-result-3
+    enum-told-5
+    add-result-4
     returns
     returns-2
     returns-3
     returns-4
     returns-5
     returns-6
-    returns-7)
+    returns-7
+    returns-8)

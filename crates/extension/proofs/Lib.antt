@@ -1,0 +1,6 @@
+-- For the proofs of `apply` and `noise` to cite.
+mod Grids
+pub mod Leaves
+pub mod RowExtended
+pub mod Rows
+pub mod Extending

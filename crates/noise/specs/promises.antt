@@ -1,0 +1,3 @@
+-- `Fits`: what NOISE asks. `Making`: the rows that it makes.
+pub mod Fits
+pub mod Making

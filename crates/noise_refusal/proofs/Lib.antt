@@ -1,0 +1,2 @@
+-- `Laws` is for the proofs of other crates to cite.
+pub mod Laws

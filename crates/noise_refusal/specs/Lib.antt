@@ -1,0 +1,2 @@
+-- What the labels and the draws left refuse of a NOISE. Nothing here is to be believed: `promises` has what the crates promise one another.
+pub mod promises

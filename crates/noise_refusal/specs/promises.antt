@@ -1,0 +1,2 @@
+-- What the refusal of a NOISE promises.
+pub mod Refusals

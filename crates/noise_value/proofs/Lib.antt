@@ -1,0 +1,2 @@
+-- The laws, for the proofs of other crates to cite.
+pub mod Laws
