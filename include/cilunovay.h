@@ -21,6 +21,7 @@
 
 /* Elements that a run needs in each slice; more are allowed and stay as they are. */
 #define CILUNOVAY_WORK 8192   /* work values, and work labels */
+#define CILUNOVAY_MARKS 1024  /* marks, one for each row of work memory */
 #define CILUNOVAY_OUTPUT 2048 /* released values */
 #define CILUNOVAY_TRACE 256   /* four for each of at most 64 steps */
 #define CILUNOVAY_ANSWER 4
@@ -52,6 +53,7 @@
 #define CILUNOVAY_BAD_STEP 17      /* a field of a step */
 #define CILUNOVAY_BAD_TABLES 18    /* too few tables for a step, or too many */
 #define CILUNOVAY_BAD_COLUMNS 19   /* a table or a column that is not there */
+#define CILUNOVAY_BAD_SHEETS 20    /* a table's column of sheet numbers */
 
 /* Refused because of the state; the place is step, row and column. */
 #define CILUNOVAY_NOT_CLEAR 31         /* a FILTER operand, JOIN key or GROUP key has a label */
@@ -76,9 +78,9 @@ extern "C" {
  *   0, rows, columns, length    released: output begins with the table's values,
  *                               row by row, and text with the table's text, of so
  *                               many bytes
- *   1, 0, 0, 0                  values, labels, output or trace is too short; this
- *                               is tested before the container is read
- *   11 to 19, offset, 0, 0      refused because of the input
+ *   1, 0, 0, 0                  values, labels, marks, output or trace is too short;
+ *                               this is tested before the container is read
+ *   11 to 20, offset, 0, 0      refused because of the input
  *   31 to 37, step, row, column refused because of the state
  *   51, steps, 0, 0             refused because text is shorter than the table's
  *                               text; this is tested last, where the table would
@@ -99,13 +101,16 @@ extern "C" {
  * finds none left. How they are distributed is the caller's care, and so is that none
  * is used twice: docs/DRAWS.md.
  *
- * After 1 and after 11 to 19 nothing else has changed. After a release, 31 to 37 and
+ * Values, labels and marks are work memory: the cells of the tables that steps make,
+ * and for each row its mark, which says of which ballot sheet it is.
+ *
+ * After 1 and after 11 to 20 nothing else has changed. After a release, 31 to 37 and
  * 51, trace begins with four numbers for each finished step (kind, rows, columns,
  * stages left; after a release, 35, 36 and 51 every step is finished, and
  * cilunovay_finished below says how many there are), and the first CILUNOVAY_WORK
- * elements of values and of labels are zero. A refusal leaves output and text as
- * they were. Everything else lent is as it was, what lies past the text in its slice
- * included.
+ * elements of values and of labels and the first CILUNOVAY_MARKS of marks are zero. A
+ * refusal leaves output and text as they were. Everything else lent is as it was,
+ * what lies past the text in its slice included.
  *
  * 1 does not test text: it may have any length, 0 included. As many elements as the
  * text has bytes are enough.
@@ -113,13 +118,14 @@ extern "C" {
  * Where answer has fewer than CILUNOVAY_ANSWER elements, nothing lent changes at
  * all, the answer included, and 1 is returned: a lent slice is too short.
  *
- * What values, labels, output, trace and text hold before the call plays no part in
- * the answer, the rows, the text and the trace lines.
+ * What values, labels, marks, output, trace and text hold before the call plays no
+ * part in the answer, the rows, the text and the trace lines.
  */
 uint32_t cilunovay_run(const uint8_t *container, size_t container_length,
                        const int64_t *draws, size_t draws_length,
                        int64_t *values, size_t values_length,
                        uint32_t *labels, size_t labels_length,
+                       uint64_t *marks, size_t marks_length,
                        int64_t *output, size_t output_length,
                        uint32_t *trace, size_t trace_length,
                        uint8_t *text, size_t text_length,
@@ -131,7 +137,7 @@ uint32_t cilunovay_run(const uint8_t *container, size_t container_length,
  * container and the answer of that call, of at least CILUNOVAY_ANSWER elements.
  * After 31 to 37 and after 51 it is the step of the answer; after a release every
  * step of the plan, whose length in bytes, at most 1,024, the container has at its
- * bytes 6 and 7; after 1 and 11 to 19 it is 0. This function is tested and not
+ * bytes 6 and 7; after 1 and 11 to 20 it is 0. This function is tested and not
  * proved.
  */
 static inline size_t cilunovay_finished(const uint8_t *container, const uint64_t *answer)
@@ -143,7 +149,7 @@ static inline size_t cilunovay_finished(const uint8_t *container, const uint64_t
 
 /* The input checks of cilunovay_run alone. Writes two numbers to the start of
  * answer and returns the first: 0, 0 where the container is accepted, else 11 to
- * 19 and the offset. The rest of answer is as it was. Where answer has fewer than
+ * 20 and the offset. The rest of answer is as it was. Where answer has fewer than
  * CILUNOVAY_CHECK_ANSWER elements it is left as it was, and 1 is returned.
  */
 uint32_t cilunovay_check(const uint8_t *container, size_t container_length,

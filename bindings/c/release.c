@@ -43,6 +43,7 @@ static int64_t draws[CILUNOVAY_DRAWS]; /* no plan uses more */
 static size_t draws_length;
 static int64_t values[CILUNOVAY_WORK];
 static uint32_t labels[CILUNOVAY_WORK];
+static uint64_t marks[CILUNOVAY_MARKS];
 static int64_t output[CILUNOVAY_OUTPUT];
 static uint32_t trace[CILUNOVAY_TRACE];
 static uint8_t text[CILUNOVAY_TEXT]; /* room for every text: 51 never occurs */
@@ -82,7 +83,7 @@ static void print_rows(uint64_t rows, uint64_t columns)
 
 static void print_refusal(FILE *file, uint32_t number, const uint64_t *place)
 {
-    if (number >= CILUNOVAY_BAD_CONTAINER && number <= CILUNOVAY_BAD_COLUMNS)
+    if (number >= CILUNOVAY_BAD_CONTAINER && number <= CILUNOVAY_BAD_SHEETS)
         fprintf(file, "X %" PRIu32 " %" PRIu64 "\n", number, place[0]);
     else
         fprintf(file, "X %" PRIu32 " %" PRIu64 " %" PRIu64 " %" PRIu64 "\n", number, place[0], place[1], place[2]);
@@ -91,8 +92,9 @@ static void print_refusal(FILE *file, uint32_t number, const uint64_t *place)
 /* Runs the container that was read; the answer begins with the number. */
 static uint32_t run(size_t length)
 {
-    return cilunovay_run(container, length, draws, draws_length, values, CILUNOVAY_WORK, labels, CILUNOVAY_WORK, output,
-                         CILUNOVAY_OUTPUT, trace, CILUNOVAY_TRACE, text, CILUNOVAY_TEXT, answer, CILUNOVAY_ANSWER);
+    return cilunovay_run(container, length, draws, draws_length, values, CILUNOVAY_WORK, labels, CILUNOVAY_WORK, marks,
+                         CILUNOVAY_MARKS, output, CILUNOVAY_OUTPUT, trace, CILUNOVAY_TRACE, text, CILUNOVAY_TEXT, answer,
+                         CILUNOVAY_ANSWER);
 }
 
 /* Runs the container that was read, and prints what the monitor answers. */

@@ -31,6 +31,7 @@ pub const LONGEST_TEXT: usize = 35_097;
 pub const MOST_DRAWS: usize = 16_128;
 
 const WORK: usize = 8_192;
+const MARKS: usize = 1_024;
 const OUTPUT: usize = 2_048;
 const TRACE: usize = 256;
 
@@ -46,6 +47,8 @@ unsafe extern "C" {
         values_length: usize,
         labels: *mut u32,
         labels_length: usize,
+        marks: *mut u64,
+        marks_length: usize,
         output: *mut i64,
         output_length: usize,
         trace: *mut u32,
@@ -171,10 +174,12 @@ pub enum InputFault {
     Tables,
     /// 19: a table or a column that is not there, unequal widths, or too many columns.
     Columns,
+    /// 20: a table's column of sheet numbers.
+    Sheets,
 }
 
 impl InputFault {
-    /// Document 01's number, 11 to 19.
+    /// The number of documents 01 and 02, 11 to 20.
     pub fn number(self) -> u32 {
         self as u32 + 11
     }
@@ -190,7 +195,8 @@ impl InputFault {
             17 => InputFault::Step,
             18 => InputFault::Tables,
             19 => InputFault::Columns,
-            _ => unreachable!("the input is refused with 11 to 19"),
+            20 => InputFault::Sheets,
+            _ => unreachable!("the input is refused with 11 to 20"),
         }
     }
 
@@ -207,6 +213,9 @@ impl InputFault {
             InputFault::Tables => "a step has too few tables or too many, or the plan does not leave one",
             InputFault::Columns => {
                 "a step names a table or column that does not exist, unequal widths, or over 8 columns"
+            }
+            InputFault::Sheets => {
+                "a table's sheet numbers stand in none of its columns, or one is negative or not clear"
             }
         }
     }
@@ -291,7 +300,7 @@ pub enum Refusal {
 }
 
 impl Refusal {
-    /// The number of documents 01 and 02: 11 to 19, or 31 to 37.
+    /// The number of documents 01 and 02: 11 to 20, or 31 to 37.
     pub fn number(&self) -> u32 {
         match self {
             Refusal::Input(refusal) => refusal.fault.number(),
@@ -341,6 +350,7 @@ impl std::error::Error for Refusal {}
 pub struct Monitor {
     values: Vec<i64>,
     labels: Vec<u32>,
+    marks: Vec<u64>,
     output: Vec<i64>,
     trace: Vec<u32>,
     text: Vec<u8>,
@@ -357,6 +367,7 @@ impl Monitor {
         Monitor {
             values: vec![0; WORK],
             labels: vec![0; WORK],
+            marks: vec![0; MARKS],
             output: vec![0; OUTPUT],
             trace: vec![0; TRACE],
             text: vec![0; LONGEST_TEXT],
@@ -385,6 +396,8 @@ impl Monitor {
                 self.values.len(),
                 self.labels.as_mut_ptr(),
                 self.labels.len(),
+                self.marks.as_mut_ptr(),
+                self.marks.len(),
                 self.output.as_mut_ptr(),
                 self.output.len(),
                 self.trace.as_mut_ptr(),
@@ -403,7 +416,7 @@ impl Monitor {
                 let trace = self.lines(plan_steps(container));
                 Ok(Release { rows: first, columns: second, values, text, trace })
             }
-            11..=19 => {
+            11..=20 => {
                 let fault = InputFault::from_number(number);
                 Err(Refusal::Input(InputRefusal { fault, offset: first }))
             }

@@ -1,12 +1,14 @@
-//! What is measured: one plan for each kind of step, a mixed one, and releases
-//! of small and of the widest values as text, each with the same query in SQL.
+//! What is measured: one plan for each kind of step, a mixed one, GROUP by numbers
+//! of sheets, and releases of small and of the widest values as text, each with
+//! the same query in SQL.
 
 use crate::draft::{step, Draft, RawStep, RawTable};
 use crate::reference::value::LOWEST;
+use crate::rng::Rng;
 
 pub struct Case {
     pub name: &'static str,
-    pub make: fn(usize) -> (Draft, &'static str),
+    pub make: fn(usize) -> (Draft, String),
 }
 
 /// T (cut 3) over A (sum and count, 1): cut and sum clear it.
@@ -15,18 +17,20 @@ const SUM: u32 = 0x2003_0001;
 
 /// Rows of the largest table.
 pub const SIZES: [usize; 3] = [16, 64, 256];
+/// Rows of the tables with sheet numbers.
+pub const FULL: [usize; 1] = [256];
 
 pub static CASES: [Case; 10] = [
     Case {
         name: "SCAN",
-        make: |rows| (draft(vec![table(8, rows, 0, 0)], &[scan(0)]), "SELECT * FROM t0"),
+        make: |rows| (draft(vec![table(8, rows, 0, 0)], &[scan(0)]), "SELECT * FROM t0".into()),
     },
     Case {
         name: "UNION",
         make: |rows| {
             let tables = vec![table(8, rows / 2, 0, 0), table(8, rows / 2, 1, 0)];
             let steps = [scan(0), scan(1), step(2, 0, 0, 0, 0, 0)];
-            (draft(tables, &steps), "SELECT * FROM t0 UNION ALL SELECT * FROM t1")
+            (draft(tables, &steps), "SELECT * FROM t0 UNION ALL SELECT * FROM t1".into())
         },
     },
     Case {
@@ -35,28 +39,28 @@ pub static CASES: [Case; 10] = [
             let tables = vec![table(4, rows, 0, 0), table(5, rows, 1, 0)];
             let steps = [scan(0), scan(1), step(3, 0, 0, 0, 0, 0)];
             let sql = "SELECT t0.*, t1.c1, t1.c2, t1.c3, t1.c4 FROM t0 JOIN t1 ON t0.c0 = t1.c0";
-            (draft(tables, &steps), sql)
+            (draft(tables, &steps), sql.into())
         },
     },
     Case {
         name: "FILTER",
         make: |rows| {
             let steps = [scan(0), step(4, 1, 2, 0, 0, 50)];
-            (draft(vec![table(8, rows, 0, 0)], &steps), "SELECT * FROM t0 WHERE c1 < 50")
+            (draft(vec![table(8, rows, 0, 0)], &steps), "SELECT * FROM t0 WHERE c1 < 50".into())
         },
     },
     Case {
         name: "KEEP",
         make: |rows| {
             let steps = [scan(0), step(5, 0b0101_0110, 0, 0, 0, 0)];
-            (draft(vec![table(8, rows, 0, 0)], &steps), "SELECT c1, c2, c4, c6 FROM t0")
+            (draft(vec![table(8, rows, 0, 0)], &steps), "SELECT c1, c2, c4, c6 FROM t0".into())
         },
     },
     Case {
         name: "APPLY",
         make: |rows| {
             let steps = [scan(0), step(6, 2, 0, 1, 3, 0)];
-            (draft(vec![table(7, rows, 0, 0)], &steps), "SELECT *, c2 + c3 FROM t0")
+            (draft(vec![table(7, rows, 0, 0)], &steps), "SELECT *, c2 + c3 FROM t0".into())
         },
     },
     Case {
@@ -66,7 +70,7 @@ pub static CASES: [Case; 10] = [
             let draws = (0..rows as i64).map(|row| row * 37 % 101 - 50).collect();
             let steps = [scan(0), step(8, 2, 0, 0, 0, 0)];
             let sql = "SELECT t0.*, t0.c2 + draws.c0 FROM t0 JOIN draws ON t0.rowid = draws.rowid";
-            (Draft { draws, ..draft(vec![table(7, rows, 0, 0)], &steps) }, sql)
+            (Draft { draws, ..draft(vec![table(7, rows, 0, 0)], &steps) }, sql.into())
         },
     },
     Case {
@@ -74,7 +78,7 @@ pub static CASES: [Case; 10] = [
         make: |rows| {
             let steps = [scan(0), step(7, 2, 1, 2, 0, 0)];
             let sql = "SELECT c1, sum(c2) FROM t0 GROUP BY c1";
-            (draft(vec![table(8, rows, 0, SUM)], &steps), sql)
+            (draft(vec![table(8, rows, 0, SUM)], &steps), sql.into())
         },
     },
     Case {
@@ -82,7 +86,7 @@ pub static CASES: [Case; 10] = [
         make: |rows| {
             let steps = [scan(0), step(7, 8, 4, 2, 0, 0)];
             let sql = "SELECT c3, sum(c2) / count(*) FROM t0 GROUP BY c3";
-            (draft(vec![table(8, rows, 0, 0)], &steps), sql)
+            (draft(vec![table(8, rows, 0, 0)], &steps), sql.into())
         },
     },
     Case {
@@ -113,9 +117,27 @@ pub static CASES: [Case; 10] = [
                     UNION ALL SELECT c0, c2 FROM t1 WHERE c1 >= 50) AS u
                 JOIN t2 ON u.c0 = t2.c0)
                 GROUP BY k";
-            (draft(tables, &steps), sql)
+            (draft(tables, &steps), sql.into())
         },
     },
+];
+
+/// GROUP by many keys, by few and by one, over rows that come from all different
+/// sheets, in rising order and in none, from one, and each sheet twice. The label
+/// asks for just the sheets that each group has.
+pub static SHEETS: [Case; 12] = [
+    Case { name: "64 keys, rising", make: |rows| on_sheets(rows, 64, Order::Rising) },
+    Case { name: "64 keys, shuffled", make: |rows| on_sheets(rows, 64, Order::Shuffled) },
+    Case { name: "64 keys, the same", make: |rows| on_sheets(rows, 64, Order::Same) },
+    Case { name: "64 keys, twice", make: |rows| on_sheets(rows, 64, Order::Twice) },
+    Case { name: "8 keys, rising", make: |rows| on_sheets(rows, 8, Order::Rising) },
+    Case { name: "8 keys, shuffled", make: |rows| on_sheets(rows, 8, Order::Shuffled) },
+    Case { name: "8 keys, the same", make: |rows| on_sheets(rows, 8, Order::Same) },
+    Case { name: "8 keys, twice", make: |rows| on_sheets(rows, 8, Order::Twice) },
+    Case { name: "1 key, rising", make: |rows| on_sheets(rows, 1, Order::Rising) },
+    Case { name: "1 key, shuffled", make: |rows| on_sheets(rows, 1, Order::Shuffled) },
+    Case { name: "1 key, the same", make: |rows| on_sheets(rows, 1, Order::Same) },
+    Case { name: "1 key, twice", make: |rows| on_sheets(rows, 1, Order::Twice) },
 ];
 
 /// A table of 8 columns as it is; SQLite makes its text as well.
@@ -124,14 +146,14 @@ pub static TEXTS: [Case; 2] = [
         name: "text, small",
         make: |rows| {
             let digits = filled(rows, |cell| cell % 10);
-            (draft(vec![digits], &[scan(0)]), "SELECT * FROM t0")
+            (draft(vec![digits], &[scan(0)]), "SELECT * FROM t0".into())
         },
     },
     Case {
         name: "text, widest",
         make: |rows| {
             let lowest = filled(rows, |_| LOWEST);
-            (draft(vec![lowest], &[scan(0)]), "SELECT * FROM t0")
+            (draft(vec![lowest], &[scan(0)]), "SELECT * FROM t0".into())
         },
     },
 ];
@@ -160,10 +182,51 @@ fn table(columns: usize, rows: usize, number: i64, label: u32) -> RawTable {
             });
         }
     }
-    RawTable { columns, cells }
+    RawTable::new(columns, cells)
+}
+
+/// The sheets of a table's rows.
+enum Order {
+    Rising,
+    Shuffled,
+    Same,
+    Twice,
+}
+
+/// Column 0: so many keys in turn. Column 1: values that a sum over the sheets of
+/// the group clears. Column 2: the numbers of the sheets.
+fn on_sheets(rows: usize, keys: usize, order: Order) -> (Draft, String) {
+    let mut numbers: Vec<usize> = (0..rows).collect();
+    let members = rows / keys;
+    let mut different = members;
+    match order {
+        Order::Rising => (),
+        Order::Shuffled => {
+            let mut rng = Rng::new(rows as u64);
+            (1..rows).rev().for_each(|place| numbers.swap(place, rng.below(place + 1)));
+        }
+        Order::Same => {
+            numbers.fill(7);
+            different = 1;
+        }
+        // The second half of the rows has the sheets of the first, key by key.
+        Order::Twice => {
+            numbers = (0..rows).map(|row| row % (rows / 2)).collect();
+            different = members / 2;
+        }
+    }
+    let label = 0x2002_0000 + different as u32;
+    let row = |(row, &number): (usize, &usize)| {
+        [((row % keys) as i64, 0), (row as i64 * 7_919 + 17, label), (number as i64, 0)]
+    };
+    let table = RawTable::new(3, numbers.iter().enumerate().flat_map(row).collect());
+    let steps = [scan(0), step(7, 1, 1, 1, 0, 0)];
+    let sql =
+        format!("SELECT c0, sum(c1) FROM t0 GROUP BY c0 HAVING count(DISTINCT c2) >= {different}");
+    (draft(vec![RawTable { sheets: 3, ..table }], &steps), sql)
 }
 
 /// 8 columns of values by the number of the cell.
 fn filled(rows: usize, value: fn(i64) -> i64) -> RawTable {
-    RawTable { columns: 8, cells: (0..8 * rows as i64).map(|cell| (value(cell), 0)).collect() }
+    RawTable::new(8, (0..8 * rows as i64).map(|cell| (value(cell), 0)).collect())
 }

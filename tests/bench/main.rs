@@ -1,6 +1,7 @@
 //! The time of the product beside that of the reference implementation and of
 //! SQLite, for each kind of step, for a mixed plan, and for the text of small
-//! and of the widest values, at three sizes.
+//! and of the widest values, at three sizes; and for GROUP over 256 rows by keys
+//! and sheets.
 //!
 //!     rustc -O --edition 2021 -o bench tests/bench/main.rs \
 //!         -L native=DIRECTORY -l static=LIBRARY          (and libsqlite3-dev)
@@ -14,8 +15,9 @@
 //! tables already in memory, without labels, and every value of the result is
 //! read; the draws of NOISE are a table, joined by row number. It makes a text only in the cases of text, where each value is read as
 //! text as well: there all three do the same work, and in the other rows SQLite
-//! has rows to make where product and reference have rows and text. The means
-//! of the two sorts of rows are printed apart. Times are the best of all runs.
+//! has rows to make where product and reference have rows and text. In the cases
+//! of sheets it counts the distinct ones of each group. The means of the three
+//! sorts of rows are printed apart. Times are the best of all runs.
 //! Before anything is measured the results of the three are compared, rows as
 //! sets and texts byte by byte.
 //!
@@ -49,8 +51,8 @@ mod rng;
 mod cases;
 mod sqlite;
 
-use cases::{Case, CASES, SIZES, TEXTS};
-use lent::{Input, Lent, NEEDED};
+use cases::{Case, CASES, FULL, SHEETS, SIZES, TEXTS};
+use lent::{Input, Lent, NEEDED, OUTPUT};
 use reference::release::TEXT_LENGTH;
 use sqlite::Query;
 use std::time::{Duration, Instant};
@@ -78,10 +80,28 @@ fn parse(text: &str) -> usize {
     text.parse().unwrap_or_else(|_| usage())
 }
 
-/// All cases; with each, whether SQLite makes the text.
-fn cases() -> impl Iterator<Item = (&'static Case, bool)> {
-    let steps = CASES.iter().map(|case| (case, false));
-    steps.chain(TEXTS.iter().map(|case| (case, true)))
+/// Cases whose means are printed together. SQLite makes the text of the last.
+#[derive(Clone, Copy, PartialEq)]
+enum Sort {
+    Steps,
+    Sheets,
+    Texts,
+}
+
+impl Sort {
+    fn sizes(self) -> &'static [usize] {
+        if self == Sort::Sheets {
+            &FULL
+        } else {
+            &SIZES
+        }
+    }
+}
+
+fn cases() -> impl Iterator<Item = (&'static Case, Sort)> {
+    let steps = CASES.iter().map(|case| (case, Sort::Steps));
+    let sheets = SHEETS.iter().map(|case| (case, Sort::Sheets));
+    steps.chain(sheets).chain(TEXTS.iter().map(|case| (case, Sort::Texts)))
 }
 
 /// Reads an answer, so that no compiler leaves out the run that gave it.
@@ -104,16 +124,16 @@ struct Bench {
 type Given = (Vec<Vec<i64>>, Option<Vec<u8>>);
 
 impl Bench {
-    fn new((case, text): (&Case, bool), size: usize) -> Bench {
+    fn new((case, sort): (&Case, Sort), size: usize) -> Bench {
         let (draft, sql) = (case.make)(size);
-        let query = Query::new(&draft.tables, &draft.draws, sql);
+        let query = Query::new(&draft.tables, &draft.draws, &sql);
         let mut bench = Bench {
             container: draft.bytes(),
             draws: draft.draws,
             lent: Lent::default(),
             query,
-            rows: vec![0; NEEDED[2]],
-            text: text.then(Vec::new),
+            rows: vec![0; OUTPUT],
+            text: (sort == Sort::Texts).then(Vec::new),
         };
         bench.lend(1);
         bench
@@ -191,8 +211,8 @@ fn once(engine: &str, case: &str, size: usize, count: usize) {
 }
 
 fn list() {
-    for (case, _) in cases() {
-        for size in SIZES {
+    for (case, sort) in cases() {
+        for size in sort.sizes() {
             println!("{size} {}", case.name);
         }
     }
@@ -202,23 +222,24 @@ fn table(milliseconds: usize) {
     let time = Duration::from_millis(milliseconds as u64);
     println!("microseconds, best of all runs, {milliseconds} ms for each row");
     println!(
-        "{:<16}{:>5}{:>8}{:>10}{:>11}{:>10}{:>12}{:>10}",
+        "{:<18}{:>5}{:>8}{:>10}{:>11}{:>10}{:>12}{:>10}",
         "plan", "rows", "bytes", "product", "reference", "sqlite", "/reference", "/sqlite"
     );
-    let mut ratios: [[Vec<f64>; 2]; 2] = Default::default();
+    let mut ratios: [[Vec<f64>; 2]; 3] = Default::default();
     let mut growth = Vec::new();
-    for (case, text) in cases() {
+    for (case, sort) in cases() {
         let mut times = Vec::new();
-        for size in SIZES {
-            let mut bench = Bench::new((case, text), size);
+        for &size in sort.sizes() {
+            let mut bench = Bench::new((case, sort), size);
             let [product, reference, sqlite] = [0, 1, 2].map(|engine| bench.result(engine));
             assert!(product == reference, "{}: product and reference differ", case.name);
             assert!(reference.0 == sqlite.0, "{}: reference and SQLite differ", case.name);
-            assert!(!text || reference.1 == sqlite.1, "{}: SQLite's text differs", case.name);
+            let text = sort != Sort::Texts || reference.1 == sqlite.1;
+            assert!(text, "{}: SQLite's text differs", case.name);
             let best = bench.best(time);
             let ratio = [best[0] / best[1], best[0] / best[2]];
             println!(
-                "{:<16}{:>5}{:>8}{:>10.2}{:>11.2}{:>10.2}{:>12.3}{:>10.3}",
+                "{:<18}{:>5}{:>8}{:>10.2}{:>11.2}{:>10.2}{:>12.3}{:>10.3}",
                 case.name,
                 size,
                 bench.container.len(),
@@ -228,15 +249,17 @@ fn table(milliseconds: usize) {
                 ratio[0],
                 ratio[1]
             );
-            ratios[text as usize][0].push(ratio[0]);
-            ratios[text as usize][1].push(ratio[1]);
+            ratios[sort as usize][0].push(ratio[0]);
+            ratios[sort as usize][1].push(ratio[1]);
             times.push(best);
         }
-        growth.push((case.name, times));
+        if times.len() == SIZES.len() {
+            growth.push((case.name, times));
+        }
     }
     println!("product and reference write the text in every row; sqlite does so only in the rows of text");
     println!();
-    for (rows, ratios) in ["", "text: "].iter().zip(&ratios) {
+    for (rows, ratios) in ["", "sheets: ", "text: "].iter().zip(&ratios) {
         for (name, ratios) in ["reference", "sqlite"].iter().zip(ratios) {
             let logarithms = ratios.iter().map(|ratio| ratio.ln()).sum::<f64>();
             let mean = (logarithms / ratios.len() as f64).exp();
@@ -246,9 +269,9 @@ fn table(milliseconds: usize) {
     }
     println!();
     println!("growth: the power of the rows by which the time grows, for {SIZES:?} rows");
-    println!("{:<16}{:>16}{:>16}{:>16}", "plan", ENGINES[0], ENGINES[1], ENGINES[2]);
+    println!("{:<18}{:>16}{:>16}{:>16}", "plan", ENGINES[0], ENGINES[1], ENGINES[2]);
     for (name, times) in growth {
-        print!("{name:<16}");
+        print!("{name:<18}");
         for engine in 0..3 {
             let power = |from: usize| {
                 let rows = SIZES[from + 1] as f64 / SIZES[from] as f64;

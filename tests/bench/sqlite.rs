@@ -59,7 +59,7 @@ impl Query {
             }
             if !draws.is_empty() {
                 let cells = draws.iter().map(|&draw| (draw, 0)).collect();
-                query.load("draws", &RawTable { columns: 1, cells });
+                query.load("draws", &RawTable::new(1, cells));
             }
             let none = ptr::null_mut();
             let prepared =

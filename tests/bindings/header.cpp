@@ -1,6 +1,6 @@
-// The header in C++: both functions on a container without bytes, the number of finished steps over slices that were used before, draws of
-// several lengths, and the text of a release in slices of several lengths. Takes place in the folder of the trials' containers, whose names
-// stand in ../args; those of the trials with draws are in ../../noise_trials.
+// The header in C++: both functions on a container without bytes, slices that are too short, the number of finished steps over slices that were
+// used before, what work memory holds afterwards, draws of several lengths, and the text of a release in slices of several lengths. Takes place
+// in the folder of the trials' containers, whose names stand in ../args; those of the trials with draws are in ../../noise_trials.
 #include <cilunovay.h>
 
 #include <algorithm>
@@ -10,13 +10,14 @@
 #include <string>
 #include <vector>
 
-// What output and text hold before a run.
-enum { PATTERN = 0xA5 };
+// What output and text hold before a run; what work memory and trace hold before a fresh one.
+enum { PATTERN = 0xA5, USED = 9 };
 
 static std::vector<std::uint8_t> container(CILUNOVAY_CONTAINER + 1), text(CILUNOVAY_TEXT + 9);
 static std::size_t length, draws_length;
 static std::vector<std::int64_t> draws(CILUNOVAY_DRAWS), values(CILUNOVAY_WORK), output(CILUNOVAY_OUTPUT);
-static std::vector<std::uint32_t> labels(CILUNOVAY_WORK), trace(CILUNOVAY_TRACE, 9);
+static std::vector<std::uint32_t> labels(CILUNOVAY_WORK), trace(CILUNOVAY_TRACE, USED);
+static std::vector<std::uint64_t> marks(CILUNOVAY_MARKS);
 static std::uint64_t answer[CILUNOVAY_ANSWER] = {9, 9, 9, 9};
 
 // Runs the container with the draws, and with so many bytes for its text.
@@ -25,7 +26,8 @@ static std::uint32_t run(std::size_t room)
     std::fill(output.begin(), output.end(), PATTERN);
     std::fill(text.begin(), text.end(), PATTERN);
     return cilunovay_run(container.data(), length, draws.data(), draws_length, values.data(), values.size(), labels.data(), labels.size(),
-                         output.data(), output.size(), trace.data(), trace.size(), text.data(), room, answer, CILUNOVAY_ANSWER);
+                         marks.data(), marks.size(), output.data(), output.size(), trace.data(), trace.size(), text.data(), room, answer,
+                         CILUNOVAY_ANSWER);
 }
 
 static bool read(const std::string &name)
@@ -39,17 +41,10 @@ static bool read(const std::string &name)
     return true;
 }
 
-static bool too_short()
+static bool no_bytes()
 {
-    length = 0;
-    if (cilunovay_check(container.data(), 0, answer, CILUNOVAY_CHECK_ANSWER) != CILUNOVAY_BAD_CONTAINER
-        || answer[0] != CILUNOVAY_BAD_CONTAINER || answer[1] != 0 || answer[2] != 9)
-        return false;
-    labels.pop_back();
-    bool refused = run(0) == CILUNOVAY_TOO_SHORT && answer[0] == CILUNOVAY_TOO_SHORT && answer[2] == 0
-                   && cilunovay_finished(container.data(), answer) == 0;
-    labels.push_back(0);
-    return refused;
+    return cilunovay_check(container.data(), 0, answer, CILUNOVAY_CHECK_ANSWER) == CILUNOVAY_BAD_CONTAINER
+           && answer[0] == CILUNOVAY_BAD_CONTAINER && answer[1] == 0 && answer[2] == 9;
 }
 
 // The file of a trial, whose run answers this number after so many finished steps; the trace holds the lines of earlier calls.
@@ -87,21 +82,53 @@ template <class Element> static bool all(const std::vector<Element> &slice, Elem
     return std::all_of(slice.begin(), slice.end(), [value](Element one) { return one == value; });
 }
 
+// Every element of work memory has this value.
+static bool work_is(int value)
+{
+    return all<std::int64_t>(values, value) && all<std::uint32_t>(labels, value) && all<std::uint64_t>(marks, value);
+}
+
 // Runs the container over slices that hold nothing of an earlier run.
 static std::uint32_t fresh_run(std::size_t room)
 {
-    std::fill(values.begin(), values.end(), 9);
-    std::fill(labels.begin(), labels.end(), 9);
-    std::fill(trace.begin(), trace.end(), 9);
+    std::fill(values.begin(), values.end(), USED);
+    std::fill(labels.begin(), labels.end(), USED);
+    std::fill(marks.begin(), marks.end(), USED);
+    std::fill(trace.begin(), trace.end(), USED);
     return run(room);
+}
+
+// A slice one element shorter than a run needs: 1, before 11 too, and nothing lent changes. One longer: a release, and its last element is as
+// it was.
+template <class Element> static bool needed(std::vector<Element> &slice, Element before)
+{
+    const std::size_t size = slice.size(), whole = length;
+    bool right = true;
+
+    slice.resize(size - 1);
+    for (std::size_t bytes : {std::size_t(0), whole}) {
+        length = bytes;
+        right = right && fresh_run(CILUNOVAY_TEXT) == CILUNOVAY_TOO_SHORT && answers(CILUNOVAY_TOO_SHORT, 0, 0, 0) && work_is(USED)
+                && all<std::int64_t>(output, PATTERN) && all<std::uint32_t>(trace, USED) && holds("")
+                && cilunovay_finished(container.data(), answer) == 0;
+    }
+    slice.resize(size + 1);
+    right = right && fresh_run(CILUNOVAY_TEXT) == CILUNOVAY_RELEASED && slice.back() == before;
+    slice.resize(size);
+    return right;
+}
+
+static bool too_short()
+{
+    return read("printed_case") && needed<std::int64_t>(values, USED) && needed<std::uint32_t>(labels, USED)
+           && needed<std::uint64_t>(marks, USED) && needed<std::int64_t>(output, PATTERN) && needed<std::uint32_t>(trace, USED);
 }
 
 // So many bytes are too few for a release's text: 51, with the trace of the release, zeros in work memory, and nothing else changed.
 static bool too_few(std::size_t room, std::size_t steps, const std::vector<std::uint32_t> &released_trace)
 {
-    return fresh_run(room) == CILUNOVAY_NO_ROOM && answers(CILUNOVAY_NO_ROOM, steps, 0, 0) && trace == released_trace
-           && all<std::int64_t>(values, 0) && all<std::uint32_t>(labels, 0) && all<std::int64_t>(output, PATTERN) && holds("")
-           && cilunovay_finished(container.data(), answer) == steps;
+    return fresh_run(room) == CILUNOVAY_NO_ROOM && answers(CILUNOVAY_NO_ROOM, steps, 0, 0) && trace == released_trace && work_is(0)
+           && all<std::int64_t>(output, PATTERN) && holds("") && cilunovay_finished(container.data(), answer) == steps;
 }
 
 static bool released_text()
@@ -112,18 +139,19 @@ static bool released_text()
     const std::vector<std::uint32_t> released_trace = trace;
 
     for (std::size_t room : {std::size_t(CILUNOVAY_TEXT), size, size + 1, text.size()})
-        if (fresh_run(room) != CILUNOVAY_RELEASED || !answers(CILUNOVAY_RELEASED, rows, columns, size) || !holds(whole))
+        if (fresh_run(room) != CILUNOVAY_RELEASED || !answers(CILUNOVAY_RELEASED, rows, columns, size) || !holds(whole) || !work_is(0))
             return false;
     return too_few(size - 1, steps, released_trace) && too_few(1, steps, released_trace) && too_few(0, steps, released_trace);
 }
 
-// A refusal is the same with room for a text and without.
+// A refusal is the same with room for a text and without. One of the input leaves work memory as it was, one of the state leaves zeros.
 static bool refused_text(std::uint32_t number)
 {
     const std::uint64_t first = answer[1], second = answer[2], third = answer[3];
 
     for (std::size_t room : {std::size_t(CILUNOVAY_TEXT), std::size_t(0)})
-        if (fresh_run(room) != number || !answers(number, first, second, third) || !all<std::int64_t>(output, PATTERN) || !holds(""))
+        if (fresh_run(room) != number || !answers(number, first, second, third) || !all<std::int64_t>(output, PATTERN) || !holds("")
+            || !work_is(number < CILUNOVAY_NOT_CLEAR ? USED : 0))
             return false;
     return number != CILUNOVAY_NO_ROOM;
 }
@@ -176,13 +204,12 @@ static std::uint32_t noise(std::size_t count)
 // So few draws: 37 at the row that finds none, with the trace line of the SCAN, zeros in work memory, and nothing else changed.
 static bool too_few_draws(std::size_t count)
 {
-    std::vector<std::uint32_t> scanned(CILUNOVAY_TRACE, 9);
+    std::vector<std::uint32_t> scanned(CILUNOVAY_TRACE, USED);
     const std::uint32_t line[] = {1, 2, 2, 0};
 
     std::copy(line, line + 4, scanned.begin());
-    return noise(count) == CILUNOVAY_NO_DRAW && answers(CILUNOVAY_NO_DRAW, 1, count, 1) && trace == scanned && all<std::int64_t>(values, 0)
-           && all<std::uint32_t>(labels, 0) && all<std::int64_t>(output, PATTERN) && holds("")
-           && cilunovay_finished(container.data(), answer) == 1;
+    return noise(count) == CILUNOVAY_NO_DRAW && answers(CILUNOVAY_NO_DRAW, 1, count, 1) && trace == scanned && work_is(0)
+           && all<std::int64_t>(output, PATTERN) && holds("") && cilunovay_finished(container.data(), answer) == 1;
 }
 
 // Enough draws: the sums, whether more are lent or not.
@@ -213,10 +240,11 @@ static bool longest_text()
 
 int main()
 {
-    return too_short() && finishes("steps_64", CILUNOVAY_RELEASED, 64) && finishes("printed_case", CILUNOVAY_RELEASED, 2)
+    return no_bytes() && too_short() && finishes("steps_64", CILUNOVAY_RELEASED, 64) && finishes("printed_case", CILUNOVAY_RELEASED, 2)
                    && finishes("printed_case_minimum_3", CILUNOVAY_STAGE_LEFT, 2) && finishes("r31_filter_first_row", CILUNOVAY_NOT_CLEAR, 1)
                    && finishes("r34_union_of_257", CILUNOVAY_TOO_MANY, 2) && finishes("r36_add", CILUNOVAY_OVER, 2)
                    && finishes("r37_noise_of_a_group", CILUNOVAY_NO_DRAW, 2) && finishes("input_19", CILUNOVAY_BAD_COLUMNS, 0)
+                   && finishes("input_20", CILUNOVAY_BAD_SHEETS, 0)
                    && too_few_draws(0) && too_few_draws(1) && enough_draws(2) && enough_draws(3)
                    && texts_of_the_trials("", false) && texts_of_the_trials("../../noise_trials/data/", true) && longest_text()
                ? 0

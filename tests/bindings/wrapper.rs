@@ -147,6 +147,26 @@ fn no_bytes_at_all() {
 }
 
 #[test]
+fn a_sheet_number_below_zero_is_refused() {
+    let refusal = check(&named("input_20_negative")).unwrap_err();
+    assert_eq!((refusal.fault, refusal.offset), (InputFault::Sheets, 34));
+    assert_eq!(
+        refusal.to_string(),
+        "refused with 20 at byte 34: a table's sheet numbers stand in none of its columns, or one is negative or \
+         not clear"
+    );
+    assert_eq!(Monitor::new().run(&named("input_20_negative"), &[]), Err(Refusal::Input(refusal)));
+}
+
+#[test]
+fn twenty_rows_of_ten_sheets_are_ten() {
+    let refusal = Monitor::new().run(&named("r35_union_with_itself"), &[]).unwrap_err();
+    let scan = line(Kind::Scan, 10, 2, 10);
+    let trace = [scan, scan, line(Kind::Union, 20, 2, 20), line(Kind::Group, 1, 2, 1)];
+    assert_eq!((refusal.number(), refusal.trace()), (35, &trace[..]));
+}
+
+#[test]
 fn nothing_of_one_run_shows_in_the_next() {
     let mut used = Monitor::new();
     for (name, container) in containers() {
@@ -175,6 +195,6 @@ fn every_number_occurs_and_is_the_fault_s() {
     }
     seen.sort();
     seen.dedup();
-    assert_eq!(seen, [11, 12, 13, 14, 15, 16, 17, 18, 19, 31, 32, 33, 34, 35, 36, 37]);
-    assert_eq!((InputFault::Columns.number(), StateFault::NoDraw.number()), (19, 37));
+    assert_eq!(seen, [11, 12, 13, 14, 15, 16, 17, 18, 19, 20, 31, 32, 33, 34, 35, 36, 37]);
+    assert_eq!((InputFault::Sheets.number(), StateFault::NoDraw.number()), (20, 37));
 }

@@ -3,8 +3,11 @@
 
 use crate::draft::{assemble, part_offset, step, Draft, RawStep, RawTable};
 use crate::generate::any_step;
+use crate::labels::label;
+use crate::noise::NOISY;
 use crate::reference::value::{HIGHEST, LOWEST};
 use crate::rng::Rng;
+use crate::wrong_sheets::{at_table, before_steps, no_column, sheet, spoil, Row};
 use crate::wrong_steps::{
     apply, bad, byte, column_operand, constant, insert, left_over, narrow, not_zero, outside, past,
     prefix, shallow, wide, wide_join, with_width, zero_byte,
@@ -33,7 +36,7 @@ pub static DAMAGES: &[Damage] = &[
     }),
     ("11 one part alone", 11, |_, d| (assemble(&d.parts()[..1]), 0)),
     ("11 ten parts", 11, |_, mut d| {
-        let empty = RawTable { columns: 1, cells: vec![] };
+        let empty = RawTable::new(1, vec![]);
         d.tables.truncate(2);
         d.tables.resize(9, empty);
         (d.bytes(), 0)
@@ -121,10 +124,18 @@ pub static DAMAGES: &[Damage] = &[
         put(&mut bytes, 6, u32::MAX);
         (bytes, 10)
     }),
+    ("12 before 20", 12, |_, d| {
+        let mut parts = d.parts();
+        let last = parts.len() - 1;
+        parts[1][1] = 255;
+        let mut bytes = assemble(&parts);
+        bytes.pop();
+        (bytes, 2 + 8 * last)
+    }),
     ("12 before 13", 12, |_, d| {
         let mut parts = d.parts();
         let last = parts.len() - 1;
-        parts[1][1] = 1;
+        parts[1][0] = 0;
         let mut bytes = assemble(&parts);
         bytes.pop();
         (bytes, 2 + 8 * last)
@@ -151,7 +162,6 @@ pub static DAMAGES: &[Damage] = &[
             part[0] = 4;
         })
     }),
-    ("13 byte 1 not zero", 13, |r, d| part(r, d, |r, part| part[1] = 1 + r.below(255) as u8)),
     ("13 rows other than the length's", 13, |r, d| part(r, d, |_, part| part[2] ^= 1)),
     ("13 257 rows", 13, |r, d| one_table(r, d, |_, part| *part = raw_table(1, 257))),
     ("13 65,535 rows", 13, |r, d| {
@@ -169,20 +179,38 @@ pub static DAMAGES: &[Damage] = &[
     }),
     ("13 second table", 13, |_, d| {
         let mut parts = three_parts(d).parts();
-        parts[2][1] = 7;
+        parts[2][0] = 0;
         (assemble(&parts), part_offset(&parts, 2))
     }),
     ("13 in 65,536 bytes", 13, |_, d| padded(d, LONGEST)),
     ("13 before 14", 13, |_, d| {
         let mut d = three_parts(d);
-        d.tables[1] = RawTable { columns: 1, cells: vec![(HIGHEST + 1, 0)] };
+        d.tables[1] = RawTable::new(1, vec![(HIGHEST + 1, 0)]);
         let mut parts = d.parts();
-        parts[1][1] = 1;
+        parts[1][0] = 0;
         (assemble(&parts), part_offset(&parts, 1))
     }),
     ("13 before 16", 13, |r, mut d| {
         d.steps.clear();
-        part(r, d, |_, part| part[1] = 1)
+        part(r, d, |_, part| part[0] = 0)
+    }),
+    ("13 before 20, no columns", 13, |r, d| {
+        part(r, d, |r, part| {
+            part[0] = 0;
+            part[1] = byte(r)
+        })
+    }),
+    ("13 before 20, nine columns", 13, |r, d| {
+        part(r, d, |r, part| {
+            *part = raw_table(9, r.below(3));
+            part[1] = r.pick(&[1, 9, 10, 255])
+        })
+    }),
+    ("13 before 20, length", 13, |r, d| {
+        part(r, d, |r, part| {
+            part[1] = byte(r);
+            part.push(0)
+        })
     }),
     // 14
     ("14 2^47", 14, |r, d| value(r, d, HIGHEST + 1)),
@@ -226,14 +254,27 @@ pub static DAMAGES: &[Damage] = &[
     }),
     ("14 before 13 in a later table", 14, |_, d| {
         let mut d = three_parts(d);
-        d.tables[0] = RawTable { columns: 1, cells: vec![(HIGHEST + 1, 0)] };
+        d.tables[0] = RawTable::new(1, vec![(HIGHEST + 1, 0)]);
         let mut parts = d.parts();
-        parts[2][1] = 1;
+        parts[2][0] = 0;
         (assemble(&parts), part_offset(&parts, 1) + 4)
     }),
     ("14 before 16", 14, |r, mut d| {
         d.steps.clear();
         value(r, d, HIGHEST + 1)
+    }),
+    ("14 before 20, byte 1", 14, |r, d| {
+        let beyond = outside(r);
+        let d = no_column(r, d);
+        value(r, d, beyond)
+    }),
+    ("14 before 20, the sheet itself", 14, |r, d| {
+        let beyond = outside(r);
+        sheet(r, d, Row::Any, |_, cell| cell.0 = beyond).at_cell(0)
+    }),
+    ("14 before 20, a negative sheet before it", 14, |r, d| {
+        let beyond = outside(r);
+        sheet(r, d, Row::First, |_, cell| cell.0 = -1).behind(|cell| cell.0 = beyond, 0)
     }),
     // 15
     ("15 bit 22", 15, |r, d| word(r, d, 0x0040_0000)),
@@ -284,6 +325,104 @@ pub static DAMAGES: &[Damage] = &[
         d.steps.clear();
         word(r, d, 1)
     }),
+    ("15 before 20, byte 1", 15, |r, d| {
+        let d = no_column(r, d);
+        word(r, d, 1)
+    }),
+    ("15 before 20, the sheet itself", 15, |r, d| {
+        sheet(r, d, Row::Any, |_, cell| cell.1 = 1).at_cell(8)
+    }),
+    ("15 before 20, a negative sheet before it", 15, |r, d| {
+        sheet(r, d, Row::First, |_, cell| cell.0 = -1).behind(|cell| cell.1 = 1, 8)
+    }),
+    ("15 before 20, a labelled sheet before it", 15, |r, d| {
+        sheet(r, d, Row::First, |_, cell| cell.1 = 1 << 31).behind(|cell| cell.1 = 1, 8)
+    }),
+    // 20
+    ("20 byte 1, one past the columns", 20, |r, d| part(r, d, |_, part| part[1] = part[0] + 1)),
+    ("20 byte 1, any past the columns", 20, |r, d| {
+        part(r, d, |r, part| part[1] = 1 + past(r, part[0] as usize).min(254))
+    }),
+    ("20 byte 1, 255", 20, |r, d| part(r, d, |_, part| part[1] = 255)),
+    ("20 byte 1, one past the columns, no rows", 20, |r, d| {
+        part(r, d, |_, part| *part = vec![part[0], part[0] + 1, 0, 0])
+    }),
+    ("20 byte 1, 255, no rows", 20, |r, d| part(r, d, |_, part| *part = vec![part[0], 255, 0, 0])),
+    ("20 byte 1, 9 of 8 columns", 20, |r, d| {
+        part(r, d, |r, part| {
+            *part = raw_table(8, r.below(3));
+            part[1] = 9
+        })
+    }),
+    ("20 sheet -1", 20, |r, d| sheet(r, d, Row::Any, |_, cell| cell.0 = -1).at_part()),
+    ("20 sheet -2^47", 20, |r, d| sheet(r, d, Row::Any, |_, cell| cell.0 = LOWEST).at_part()),
+    ("20 sheet below zero", 20, |r, d| {
+        sheet(r, d, Row::Any, |r, cell| cell.0 = r.between(LOWEST, -1)).at_part()
+    }),
+    ("20 sheet labelled", 20, |r, d| {
+        sheet(r, d, Row::Any, |r, cell| cell.1 = label(r, 3)).at_part()
+    }),
+    ("20 sheet labelled H alone", 20, |r, d| {
+        sheet(r, d, Row::Any, |_, cell| cell.1 = 1 << 31).at_part()
+    }),
+    ("20 sheet labelled A, minimum 1", 20, |r, d| {
+        sheet(r, d, Row::Any, |_, cell| cell.1 = 0x2001_0001).at_part()
+    }),
+    ("20 sheet labelled N that allows noise", 20, |r, d| {
+        sheet(r, d, Row::Any, |_, cell| cell.1 = NOISY).at_part()
+    }),
+    ("20 sheet below zero and labelled", 20, |r, d| {
+        sheet(r, d, Row::Any, |r, cell| *cell = (-1, label(r, 3))).at_part()
+    }),
+    ("20 sheet of the first row", 20, |r, d| sheet(r, d, Row::First, spoil).at_part()),
+    ("20 sheet of the last row", 20, |r, d| sheet(r, d, Row::Last, spoil).at_part()),
+    ("20 sheet of row 255", 20, |r, mut d| {
+        let columns = 1 + r.below(3);
+        d.tables = vec![RawTable::new(columns, vec![(0, 0); 256 * columns])];
+        sheet(r, d, Row::Last, spoil).at_part()
+    }),
+    ("20 second table", 20, |r, d| {
+        let mut d = three_parts(d);
+        d.tables[1].sheets = 9 + r.below(247) as u8;
+        at_table(d, 1)
+    }),
+    ("20 eighth table", 20, |r, mut d| {
+        d.tables.truncate(2);
+        d.tables.resize(7, RawTable { sheets: 1, ..RawTable::new(1, vec![(3, 0)]) });
+        d.tables.push(RawTable { sheets: 1, ..RawTable::new(1, vec![(r.pick(&[-1, -9]), 0)]) });
+        at_table(d, 7)
+    }),
+    ("20 table that no step scans", 20, |r, mut d| {
+        d.steps = vec![step(1, 0, 0, 0, 0, 0)];
+        d.tables.truncate(1);
+        d.tables.push(RawTable { sheets: 1, ..RawTable::new(1, vec![(r.between(-9, -1), 0)]) });
+        at_table(d, 1)
+    }),
+    ("20 first of two tables", 20, |r, d| {
+        let mut d = three_parts(no_column(r, d));
+        d.tables[1].sheets = 255;
+        at_table(d, 0)
+    }),
+    ("20 before 13 in a later table", 20, |r, d| {
+        let mut parts = three_parts(no_column(r, d)).parts();
+        parts[2][0] = 0;
+        (assemble(&parts), part_offset(&parts, 1))
+    }),
+    ("20 before 14 in a later table", 20, |r, d| {
+        let mut d = three_parts(no_column(r, d));
+        d.tables[1] = RawTable::new(1, vec![(outside(r), 0)]);
+        at_table(d, 0)
+    }),
+    ("20 before 15 in a later table", 20, |r, d| {
+        let mut d = three_parts(no_column(r, d));
+        d.tables[1] = RawTable::new(1, vec![(0, 1)]);
+        at_table(d, 0)
+    }),
+    ("20 before 16", 20, |r, d| before_steps(r, d, &[])),
+    ("20 before 17", 20, |r, d| before_steps(r, d, &[RawStep::default()])),
+    ("20 before 18", 20, |r, d| before_steps(r, d, &[step(2, 0, 0, 0, 0, 0)])),
+    ("20 before 18 at the plan's end", 20, |r, d| before_steps(r, d, &[step(1, 0, 0, 0, 0, 0); 2])),
+    ("20 before 19", 20, |r, d| before_steps(r, d, &[step(1, 255, 0, 0, 0, 0)])),
     // 16
     ("16 no step", 16, |_, mut d| {
         d.steps.clear();
@@ -578,7 +717,7 @@ fn padded(d: Draft, length: usize) -> Made {
 /// With two tables at least.
 fn three_parts(mut d: Draft) -> Draft {
     if d.tables.len() == 1 {
-        d.tables.push(RawTable { columns: 1, cells: vec![(3, 0)] });
+        d.tables.push(RawTable::new(1, vec![(3, 0)]));
     }
     d
 }
@@ -606,7 +745,7 @@ fn pair(rng: &mut Rng, d: Draft, which: Which, half: Half) -> Made {
 
 /// Header and zero cells, clear.
 fn raw_table(columns: usize, rows: usize) -> Vec<u8> {
-    RawTable { columns, cells: vec![(0, 0); rows * columns] }.bytes()
+    RawTable::new(columns, vec![(0, 0); rows * columns]).bytes()
 }
 
 /// Changes the part of one table.
@@ -627,7 +766,8 @@ fn one_table(rng: &mut Rng, mut d: Draft, change: fn(&mut Rng, &mut Vec<u8>)) ->
 fn field(d: Draft, table: usize, change: impl FnOnce(&mut Vec<(i64, u32)>) -> usize) -> Made {
     let mut d = three_parts(d);
     if d.tables[table].cells.len() < 2 {
-        d.tables[table] = RawTable { columns: 2, cells: vec![(1, 0), (2, 0), (3, 0), (4, 0)] };
+        d.tables[table].columns = 2;
+        d.tables[table].cells = vec![(1, 0), (2, 0), (3, 0), (4, 0)];
     }
     let place = change(&mut d.tables[table].cells);
     let parts = d.parts();

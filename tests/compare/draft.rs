@@ -10,10 +10,12 @@ pub struct Draft {
     pub draws: Vec<i64>,
 }
 
-/// Cells row by row, each a value and a label word.
+/// Cells row by row, each a value and a label word; and byte 1, zero or one more
+/// than the column of sheet numbers.
 #[derive(Clone)]
 pub struct RawTable {
     pub columns: usize,
+    pub sheets: u8,
     pub cells: Vec<(i64, u32)>,
 }
 
@@ -47,12 +49,17 @@ impl RawStep {
 }
 
 impl RawTable {
+    /// Without a column of sheet numbers.
+    pub fn new(columns: usize, cells: Vec<(i64, u32)>) -> RawTable {
+        RawTable { columns, sheets: 0, cells }
+    }
+
     pub fn rows(&self) -> usize {
         self.cells.len() / self.columns
     }
 
     pub fn bytes(&self) -> Vec<u8> {
-        let mut bytes = vec![self.columns as u8, 0];
+        let mut bytes = vec![self.columns as u8, self.sheets];
         bytes.extend((self.rows() as u16).to_le_bytes());
         for (value, label) in &self.cells {
             bytes.extend(value.to_le_bytes());

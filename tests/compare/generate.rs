@@ -4,13 +4,14 @@
 use crate::draft::{step, Draft, RawStep, RawTable};
 use crate::labels::label;
 use crate::noise::{for_rows, list, NOISY};
+use crate::reference::container::parse;
 use crate::reference::eval::perform;
-use crate::reference::label::Label;
 use crate::reference::steps::{Aggregate, Step};
 use crate::reference::table::{Cell, Table};
 use crate::reference::value::{Value, HIGHEST, LOWEST};
 use crate::rng::Rng;
-use crate::scenes::{scene, Scene};
+use crate::scenes::{scan, scene, Scene};
+use crate::sheets::number_some;
 
 /// How the tables and the plan of one container are chosen.
 #[derive(Clone, Copy, PartialEq)]
@@ -27,7 +28,7 @@ pub enum Theme {
 }
 
 pub fn valid(rng: &mut Rng) -> Draft {
-    if rng.chance(36) {
+    if rng.chance(42) {
         return staged(rng);
     }
     let theme = match rng.below(200) {
@@ -37,7 +38,10 @@ pub fn valid(rng: &mut Rng) -> Draft {
         180..=198 => Theme::Rows,
         _ => Theme::Longest,
     };
-    let tables = tables(rng, theme);
+    let mut tables = tables(rng, theme);
+    if rng.chance(40) {
+        number_some(rng, &mut tables, true);
+    }
     let length = match rng.below(100) {
         _ if theme == Theme::Longest => 4,
         0..=4 => 1,
@@ -55,7 +59,10 @@ pub fn valid(rng: &mut Rng) -> Draft {
 /// A container that begins with a scene; sometimes the scene comes last, as
 /// late as a plan can be.
 fn staged(rng: &mut Rng) -> Draft {
-    let Scene { tables, steps } = scene(rng);
+    let Scene { mut tables, steps } = scene(rng);
+    if rng.chance(20) {
+        number_some(rng, &mut tables, false);
+    }
     let late = rng.chance(8);
     let length = if late { 64 } else { (steps.len() + rng.pick(&[0, 0, 2, 6])).min(64) };
     let mut planner = Planner::new(rng, &tables, Theme::General, length);
@@ -74,19 +81,10 @@ fn staged(rng: &mut Rng) -> Draft {
     Draft { tables, steps, draws: list(rng, used) }
 }
 
-/// The reference's view of raw tables.
+/// The reference's view of raw tables: those of a container with one step.
 pub fn read(tables: &[RawTable]) -> Vec<Table> {
-    let cell = |&(value, word): &(i64, u32)| Cell {
-        value: Value::Known(value),
-        label: Label::from_word(word).expect("generated labels are well-formed"),
-    };
-    tables
-        .iter()
-        .map(|table| Table {
-            columns: table.columns,
-            cells: table.cells.iter().map(cell).collect(),
-        })
-        .collect()
+    let draft = Draft { tables: tables.to_vec(), steps: vec![scan(0)], draws: vec![] };
+    parse(&draft.bytes()).expect("generated tables are accepted").tables
 }
 
 fn tables(rng: &mut Rng, theme: Theme) -> Vec<RawTable> {
@@ -175,7 +173,7 @@ pub fn table(rng: &mut Rng, theme: Theme, columns: usize, rows: usize) -> RawTab
             cells[row * columns + column] = (value, word);
         }
     }
-    RawTable { columns, cells }
+    RawTable::new(columns, cells)
 }
 
 /// A value at or near an end of the range.

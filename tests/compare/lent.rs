@@ -3,10 +3,14 @@
 
 use crate::rng::{mix, Rng};
 
-/// What a run needs of work values, work labels, output and trace, lest it
-/// refuse with 1; of the text's slice it needs nothing.
-pub const NEEDED: [usize; 4] = [8_192, 8_192, 2_048, 256];
-pub const NAMES: [&str; 5] = ["work values", "work labels", "output", "trace", "text"];
+/// The slices that 1 tests, and what a run needs of each: work values, work
+/// labels, work marks, output and trace. Of the text's slice it needs nothing.
+pub type Lengths = [usize; 5];
+pub const NEEDED: Lengths = [8_192, 8_192, MARKS, OUTPUT, 256];
+pub const MARKS: usize = 1_024;
+pub const OUTPUT: usize = 2_048;
+pub const NAMES: [&str; 6] =
+    ["work values", "work labels", "work marks", "output", "trace", "text"];
 const MARGIN: usize = 16;
 
 /// What a run is given to read.
@@ -26,20 +30,22 @@ pub struct Read {
 #[derive(Clone, Default)]
 pub struct Lent {
     pub read: Read,
-    lengths: [usize; 4],
+    lengths: Lengths,
     room: usize,
     values: Vec<i64>,
     labels: Vec<u32>,
+    marks: Vec<u64>,
     output: Vec<i64>,
     trace: Vec<u32>,
     text: Vec<u8>,
 }
 
 /// The slices for writing, in the order of `NAMES`.
-pub type Slices<'a> = (&'a mut [i64], &'a mut [u32], &'a mut [i64], &'a mut [u32], &'a mut [u8]);
+pub type Slices<'a> =
+    (&'a mut [i64], &'a mut [u32], &'a mut [u64], &'a mut [i64], &'a mut [u32], &'a mut [u8]);
 
 /// Longer than needed as a rule, sometimes of just the length needed.
-pub fn long_enough(rng: &mut Rng) -> [usize; 4] {
+pub fn long_enough(rng: &mut Rng) -> Lengths {
     NEEDED.map(|needed| needed + if rng.chance(25) { 0 } else { 1 + rng.below(80) })
 }
 
@@ -58,8 +64,9 @@ impl Read {
 impl Lent {
     /// Fills every slice anew, margins included; `room` is the length of the
     /// text's slice. The pattern has no zeros, and in the text's slice no byte
-    /// that a text can have.
-    pub fn fill(&mut self, input: Input, lengths: [usize; 4], room: usize, seed: u64) {
+    /// that a text can have. That of the marks is at times one that marks might
+    /// have: one number in all places, small ones, or some just above the values.
+    pub fn fill(&mut self, input: Input, lengths: Lengths, room: usize, seed: u64) {
         self.read.fill(input);
         self.lengths = lengths;
         self.room = room;
@@ -75,9 +82,16 @@ impl Lent {
         };
         refill(&mut self.values, numbers(lengths[0], 1).map(|n| n as i64));
         refill(&mut self.labels, numbers(lengths[1], 2).map(|n| (n >> 32) as u32));
-        refill(&mut self.output, numbers(lengths[2], 3).map(|n| n as i64));
-        refill(&mut self.trace, numbers(lengths[3], 4).map(|n| (n >> 32) as u32));
+        refill(&mut self.output, numbers(lengths[3], 3).map(|n| n as i64));
+        refill(&mut self.trace, numbers(lengths[4], 4).map(|n| (n >> 32) as u32));
         refill(&mut self.text, numbers(room, 5).map(|n| (n >> 56) as u8 | 0x80));
+        let mark = |n: u64| match start % 4 {
+            0 => n,
+            1 => 1,
+            2 => 1 + (n >> 56),
+            _ => (1 << 47) + (n >> 53),
+        };
+        refill(&mut self.marks, numbers(lengths[2], 6).map(mark));
     }
 
     /// The slices of another run as it began, with an input of their own.
@@ -92,16 +106,18 @@ impl Lent {
         self.room = other.room;
         self.values.clone_from(&other.values);
         self.labels.clone_from(&other.labels);
+        self.marks.clone_from(&other.marks);
         self.output.clone_from(&other.output);
         self.trace.clone_from(&other.trace);
         self.text.clone_from(&other.text);
     }
 
     pub fn slices(&mut self) -> (Input<'_>, Slices<'_>) {
-        let [values, labels, output, trace] = self.lengths;
+        let [values, labels, marks, output, trace] = self.lengths;
         let written = (
             &mut self.values[..values],
             &mut self.labels[..labels],
+            &mut self.marks[..marks],
             &mut self.output[..output],
             &mut self.trace[..trace],
             &mut self.text[..self.room],
@@ -121,6 +137,7 @@ impl Lent {
         let places = [
             first(&self.values, &other.values),
             first(&self.labels, &other.labels),
+            first(&self.marks, &other.marks),
             first(&self.output, &other.output),
             first(&self.trace, &other.trace),
             first(&self.text, &other.text),
@@ -138,14 +155,17 @@ impl Lent {
         let cells = if released { (answer[1] * answer[2]) as usize } else { 0 };
         let length = if released { answer[3] as usize } else { 0 };
         let cleared = if begun { NEEDED[0] } else { 0 };
+        let unmarked = if begun { MARKS } else { 0 };
         let lines = if begun { 4 * finished } else { 0 };
         let zero = self.values[..cleared].iter().all(|&value| value == 0)
-            && self.labels[..cleared].iter().all(|&label| label == 0);
+            && self.labels[..cleared].iter().all(|&label| label == 0)
+            && self.marks[..unmarked].iter().all(|&mark| mark == 0);
         if !zero {
             return Some("a work slice is not zero at the end".into());
         }
         let same = self.values[cleared..] == before.values[cleared..]
             && self.labels[cleared..] == before.labels[cleared..]
+            && self.marks[unmarked..] == before.marks[unmarked..]
             && self.output[cells..] == before.output[cells..]
             && self.trace[lines..] == before.trace[lines..]
             && self.text[length..] == before.text[length..];
@@ -161,7 +181,7 @@ fn refill<T>(vector: &mut Vec<T>, contents: impl Iterator<Item = T>) {
     vector.extend(contents);
 }
 
-fn first<T: PartialEq + Copy + Into<i64>>(one: &[T], two: &[T]) -> Option<(usize, i64, i64)> {
+fn first<T: PartialEq + Copy + Into<i128>>(one: &[T], two: &[T]) -> Option<(usize, i128, i128)> {
     if one == two {
         return None;
     }

@@ -15,7 +15,8 @@
 //! plan uses; the text of a release reads back as its rows, and with too little
 //! room for it the release is refused with 51; slices too short are refused with
 //! 1 and unchanged, those for the answer too; the product's input checks answer
-//! as the reference's do.
+//! as the reference's do; where no table has sheet numbers, none is scanned twice
+//! and none is joined, the answer is that of the rule that counts rows.
 //!
 //! Prints how often each class occurred. The exit status is 1 after a
 //! difference, or if some class never occurred (not asked for a single INDEX).
@@ -39,13 +40,17 @@ mod noise;
 mod observe;
 mod product;
 mod rng;
+mod rules;
 mod scenes;
+mod sheet_scenes;
+mod sheets;
 mod texts;
+mod wrong_sheets;
 mod wrong_steps;
 
 use classes::Classes;
 use damage::DAMAGES;
-use lent::{long_enough, Input, Lent, NEEDED};
+use lent::{long_enough, Input, Lengths, Lent, MARKS, NEEDED};
 use observe::Seen;
 use product::by_reference;
 use reference::container::{parse, Container};
@@ -128,8 +133,12 @@ impl Harness {
         let (finished, length) =
             parsed.as_ref().map_or((0, 0), |container| outlook(container, input.draws));
         let room = texts::enough(rng, length);
-        let answer = self.both(input, long_enough(rng), room, pattern)?;
+        let lengths = long_enough(rng);
+        let answer = self.both(input, lengths, room, pattern)?;
         self.classes.hit(number_class(answer[0]));
+        let begun = answer[0] == 0 || answer[0] >= 31;
+        self.classes.hit_if(begun && lengths[2] == MARKS, "run in 1,024 marks");
+        self.classes.hit_if(begun && lengths[2] > MARKS, "run in more than 1,024 marks");
         texts::refused_before(answer[0], room, &mut self.classes);
         if let Some((class, number, offset)) = expected {
             if answer != [number, offset as u32, 0, 0] {
@@ -155,7 +164,10 @@ impl Harness {
                 if answer[0] == 0 {
                     self.text(answer, room)?;
                 }
-                let seen = observe::observe(input, &container, &mut self.classes);
+                let mut seen = observe::observe(input, &container, &mut self.classes);
+                seen.sheets_decide =
+                    rules::sheets_decide(&container, input.draws, &mut self.classes);
+                self.as_rows(input, &container, answer, &seen)?;
                 self.locked(rng, input, &container, answer, &seen)?;
                 self.unused(rng, input, answer, seen.used)?;
                 if answer[0] == 0 {
@@ -174,12 +186,33 @@ impl Harness {
         Ok(())
     }
 
+    /// A base container, of before #103, answers as it did then.
+    fn as_rows(
+        &mut self,
+        input: Input,
+        container: &Container,
+        answer: [u32; 4],
+        seen: &Seen,
+    ) -> Result<(), String> {
+        if !sheets::as_rows(input.container, container) {
+            return Ok(());
+        }
+        if seen.sheets_decide {
+            return Err("another answer than by the rule that counts rows".into());
+        }
+        self.classes.hit_if(answer[0] == 0, "as by rows: released");
+        self.classes.hit_if(answer[0] == 0 && seen.discharged_a, "as by rows: A discharged");
+        self.classes.hit_if(answer[0] == 35, "as by rows: refused with 35");
+        self.classes.hit_if(answer[0] != 0 && answer[0] != 35, "as by rows: refused otherwise");
+        Ok(())
+    }
+
     /// Runs product and reference on equal slices. `ours` and `theirs` hold
     /// the contents at the end, `before` those at the beginning.
     fn both(
         &mut self,
         input: Input,
-        lengths: [usize; 4],
+        lengths: Lengths,
         room: usize,
         pattern: u64,
     ) -> Result<[u32; 4], String> {
@@ -292,6 +325,10 @@ impl Harness {
             _ => "pair: refused with 51",
         });
         self.classes.hit_if(answer[0] == 0 && seen.noises > 0, "pair: released, with NOISE");
+        let numbered = sheets::any(input.container, container);
+        self.classes.hit_if(numbered, "pair: with sheet numbers");
+        self.classes.hit_if(numbered && answer[0] == 0, "pair: released, with sheet numbers");
+        self.classes.hit_if(seen.sheets_decide, "pair: the sheets decide, not the rows");
         if let Ok(container) = parse(other.container) {
             let second = observe::observe(other, &container, &mut Classes::default());
             let by_draw = second.over_by_draw != seen.over_by_draw;
@@ -356,8 +393,9 @@ impl Harness {
         answer: [u32; 4],
         length: usize,
     ) -> Result<(), String> {
-        const CLASSES: [&str; 4] = ["1 work values", "1 work labels", "1 output", "1 trace"];
-        for slice in 0..4 {
+        const CLASSES: [&str; 5] =
+            ["1 work values", "1 work labels", "1 work marks", "1 output", "1 trace"];
+        for slice in 0..5 {
             let mut lengths = long_enough(rng);
             lengths[slice] = match rng.below(4) {
                 0 => 0,
@@ -367,9 +405,11 @@ impl Harness {
             self.refused_short(input, lengths, texts::enough(rng, 0), pattern)?;
             self.classes.hit(CLASSES[slice]);
             self.classes.hit_if(lengths[slice] == 0, "1 with an empty slice");
+            self.classes.hit_if(lengths[2] == 0, "1 with no marks");
+            self.classes.hit_if(lengths[2] == MARKS - 1, "1 with 1,023 marks");
         }
         self.refused_short(input, NEEDED.map(|needed| needed - 1), length, pattern)?;
-        self.refused_short(input, [0; 4], 0, pattern)?;
+        self.refused_short(input, [0; 5], 0, pattern)?;
         self.classes.hit("1 all slices");
         self.before.fill(input, NEEDED, length, pattern);
         self.theirs.copy_from(&self.before);
@@ -380,7 +420,7 @@ impl Harness {
         self.classes.hit("1 answer of a run");
         answers::short_check(input.container, pattern)?;
         self.classes.hit("1 answer of the input checks");
-        self.classes.hit_if((11..20).contains(&answer[0]), "1 before a refusal of the input");
+        self.classes.hit_if((11..=20).contains(&answer[0]), "1 before a refusal of the input");
         if self.both(input, NEEDED, length, pattern)? != answer {
             return Err("another answer with slices of just the length needed".into());
         }
@@ -391,7 +431,7 @@ impl Harness {
     fn refused_short(
         &mut self,
         input: Input,
-        lengths: [usize; 4],
+        lengths: Lengths,
         room: usize,
         pattern: u64,
     ) -> Result<(), String> {
@@ -474,6 +514,7 @@ fn number_class(number: u32) -> &'static str {
         17 => "answer: 17",
         18 => "answer: 18",
         19 => "answer: 19",
+        20 => "answer: 20",
         31 => "answer: 31",
         32 => "answer: 32",
         33 => "answer: 33",

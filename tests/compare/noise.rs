@@ -90,7 +90,7 @@ pub fn finished(plan: &[Step], lent: usize, used: usize, classes: &mut Classes) 
 /// A run with other draws in place of those that it did not use.
 pub fn unused(number: u32, used: usize, classes: &mut Classes) {
     classes.hit(match (number, used) {
-        (11..=19, _) => "other draws, refused because of the input",
+        (11..=20, _) => "other draws, refused because of the input",
         (_, 0) => "other draws, none used",
         (0, _) => "other draws behind those used, released",
         (32, _) => "other draws behind those used, refused with 32",

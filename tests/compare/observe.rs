@@ -7,15 +7,15 @@ use crate::reference::container::Container;
 use crate::reference::eval::{perform, StateFault, Stop};
 use crate::reference::label::Label;
 use crate::reference::steps::{columns_of, Aggregate, Operand, Operation, Step};
-use crate::reference::table::Table;
+use crate::reference::table::{distinct, Table};
 use crate::reference::value::{Value, HIGHEST, LOWEST};
+use crate::sheets;
 
 /// What one evaluation met, for the classes of releases and of pairs.
 #[derive(Default)]
 pub struct Seen {
     kinds: u16,
     discharged_t: bool,
-    discharged_a: bool,
     discharged_n: bool,
     /// How far chains were followed: T over A and N, then A over N, then N; and
     /// A over N, then N.
@@ -30,6 +30,9 @@ pub struct Seen {
     /// Finished NOISE steps that used draws, and the draws used.
     pub noises: usize,
     pub used: usize,
+    pub discharged_a: bool,
+    /// The rule that counts rows would answer otherwise.
+    pub sheets_decide: bool,
 }
 
 pub fn observe(input: Input, container: &Container, classes: &mut Classes) -> Seen {
@@ -84,6 +87,7 @@ fn accepted(bytes: &[u8], container: &Container, classes: &mut Classes) {
     classes.hit_if(container.plan.len() == 1, "accepted: 1 step");
     classes.hit_if(container.plan.len() == 64, "accepted: 64 steps");
     classes.hit_if(bytes.len() == 65_534, "accepted: 65,534 bytes");
+    sheets::accepted(bytes, container, classes);
     for table in &container.tables {
         classes.hit_if(table.rows() == 0, "accepted: table of 0 rows");
         classes.hit_if(table.rows() == 256, "accepted: table of 256 rows");
@@ -261,6 +265,7 @@ fn made_by(
             classes.hit_if(top.rows() == 0 && before[0].rows() > 0, "UNION, right empty");
             classes.hit_if(made.rows() == 256, "UNION to 256 rows");
             classes.hit_if(made.stages_left() > 0, "UNION of labelled cells");
+            classes.hit_if(sheets::of_itself(&before[0], top), "UNION of a table with itself");
         }
         Step::Join { left_key, right_key } => {
             let left = &before[0];
@@ -284,6 +289,7 @@ fn made_by(
             classes.hit_if(made.rows() == 256, "JOIN to 256 rows");
             classes.hit_if(made.columns == 8, "JOIN to 8 columns");
             classes.hit_if(made.stages_left() > 0, "JOIN of labelled cells");
+            classes.hit_if(sheets::of_itself(left, top), "JOIN of a table with itself");
         }
         Step::Filter { column, comparison, operand } => {
             let code = comparison as usize;
@@ -506,6 +512,7 @@ fn grouped(
         classes.hit_if(many && wanted.contains(&Value::Over), "GROUP, OVER keys are one group");
         classes.hit_if(rows.len() == 256, "GROUP, a group of 256 rows");
         group_labels(aggregate, column, top, &rows, result.label, seen, classes);
+        sheets::grouped(aggregate, column, top, &rows, classes);
         let numbers: Vec<i128> = rows
             .iter()
             .filter_map(|&row| match top.row(row)[column].value {
@@ -569,6 +576,7 @@ fn group_labels(
         Aggregate::Max => ["max discharges", "max not allowed", "max short of the minimum"],
         Aggregate::Avg => ["avg discharges", "avg not allowed", "avg short of the minimum"],
     };
+    let size = distinct(rows.iter().map(|&row| top.marks[row]));
     let mut stages: Vec<Label> = Vec::new();
     let mut discharged = false;
     for &row in rows {
@@ -580,10 +588,10 @@ fn group_labels(
                 continue;
             }
         };
-        let enough = rows.len() >= stage.minimum as usize;
+        let enough = size >= stage.minimum as usize;
         if let Some((_, parts)) = seen.composed.iter().find(|(whole, _)| *whole == label) {
             let parts = || parts.iter().filter_map(|part| part.aggregate);
-            let lower = parts().any(|part| rows.len() >= part.minimum as usize);
+            let lower = parts().any(|part| size >= part.minimum as usize);
             let allowed = parts().any(|part| part.allows(aggregate));
             let allows = stage.allows(aggregate);
             classes.hit_if(allows && enough, "composed label discharged");
@@ -598,9 +606,8 @@ fn group_labels(
             (true, false) => names[2],
         });
         if stage.allows(aggregate) {
-            classes.hit_if(rows.len() == stage.minimum as usize, "GROUP of just the minimum");
-            classes
-                .hit_if(rows.len() + 1 == stage.minimum as usize, "GROUP one short of the minimum");
+            classes.hit_if(size == stage.minimum as usize, "GROUP of just the minimum");
+            classes.hit_if(size + 1 == stage.minimum as usize, "GROUP one short of the minimum");
         }
         if stage.allows(aggregate) && enough {
             discharged = true;
@@ -618,7 +625,7 @@ fn group_labels(
     let whole = rows
         .iter()
         .fold(Label::default(), |whole, &row| whole.compose(&top.row(row)[column].label));
-    let other = whole.after_aggregate(aggregate, rows.len()) != Ok(made);
+    let other = whole.after_aggregate(aggregate, size) != Ok(made);
     classes.hit_if(other, "GROUP, to compose before the discharge would differ");
     if stages.len() > 1 {
         seen.composed.push((made, stages));

@@ -22,6 +22,8 @@ extern "C" {
         values_len: usize,
         labels: *mut u32,
         labels_len: usize,
+        marks: *mut u64,
+        marks_len: usize,
         output: *mut i64,
         output_len: usize,
         trace: *mut u32,
@@ -43,7 +45,7 @@ extern "C" {
 /// Runs the product; answers what the function itself answers.
 #[cfg(not(reference_only))]
 pub fn call_run(lent: &mut Lent, answer: &mut [u64]) -> u32 {
-    let (input, (values, labels, output, trace, text)) = lent.slices();
+    let (input, (values, labels, marks, output, trace, text)) = lent.slices();
     // Each pointer comes from a slice of the length given with it.
     unsafe {
         cilunovay_run(
@@ -55,6 +57,8 @@ pub fn call_run(lent: &mut Lent, answer: &mut [u64]) -> u32 {
             values.len(),
             labels.as_mut_ptr(),
             labels.len(),
+            marks.as_mut_ptr(),
+            marks.len(),
             output.as_mut_ptr(),
             output.len(),
             trace.as_mut_ptr(),
@@ -87,8 +91,8 @@ pub fn call_run(lent: &mut Lent, answer: &mut [u64]) -> u32 {
 
 /// Runs the reference in the same slices; answers its numbers.
 pub fn by_reference(lent: &mut Lent) -> [u32; RUN_ANSWER] {
-    let (Input { container, draws }, (values, labels, output, trace, text)) = lent.slices();
-    crate::reference::run(container, draws, values, labels, output, trace, text).numbers()
+    let (Input { container, draws }, (values, labels, marks, output, trace, text)) = lent.slices();
+    crate::reference::run(container, draws, values, labels, marks, output, trace, text).numbers()
 }
 
 #[cfg(reference_only)]

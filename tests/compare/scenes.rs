@@ -7,13 +7,14 @@ use crate::labels::label;
 use crate::noise::NOISY;
 use crate::reference::value::{HIGHEST, LOWEST};
 use crate::rng::Rng;
+use crate::sheet_scenes;
 
 pub struct Scene {
     pub tables: Vec<RawTable>,
     pub steps: Vec<RawStep>,
 }
 
-const SCENES: [fn(&mut Rng) -> Scene; 22] = [
+const SCENES: [fn(&mut Rng) -> Scene; 31] = [
     union_at_the_limit,
     join_at_the_limit,
     whole_output,
@@ -36,21 +37,30 @@ const SCENES: [fn(&mut Rng) -> Scene; 22] = [
     noise_at_the_ends,
     noise_ends_a_chain,
     noise_beside_locked,
+    sheet_scenes::around_the_minimum,
+    sheet_scenes::united_with_itself,
+    sheet_scenes::two_tables,
+    sheet_scenes::two_tables,
+    sheet_scenes::rows_that_run_on,
+    sheet_scenes::joined,
+    sheet_scenes::group_of_groups,
+    sheet_scenes::group_of_groups,
+    sheet_scenes::full_tables,
 ];
 
 pub fn scene(rng: &mut Rng) -> Scene {
     SCENES[rng.below(SCENES.len())](rng)
 }
 
-fn scan(table: u8) -> RawStep {
+pub fn scan(table: u8) -> RawStep {
     step(1, table, 0, 0, 0, 0)
 }
 
-fn keep(mask: u8) -> RawStep {
+pub fn keep(mask: u8) -> RawStep {
     step(5, mask, 0, 0, 0, 0)
 }
 
-fn noise(column: usize) -> RawStep {
+pub fn noise(column: usize) -> RawStep {
     step(8, column as u8, 0, 0, 0, 0)
 }
 
@@ -58,11 +68,11 @@ fn noise(column: usize) -> RawStep {
 fn clear(rng: &mut Rng, columns: usize, rows: usize) -> RawTable {
     let most = rng.pick(&[1, 3, 50]);
     let cells = (0..columns * rows).map(|_| (rng.between(0, most), 0)).collect();
-    RawTable { columns, cells }
+    RawTable::new(columns, cells)
 }
 
 /// Gives a label to a few cells of a column.
-fn mark(rng: &mut Rng, table: &mut RawTable, column: usize) {
+fn put_labels(rng: &mut Rng, table: &mut RawTable, column: usize) {
     let rows = table.rows();
     for _ in 0..1 + rng.below(2) {
         let row = rng.below(rows);
@@ -139,7 +149,7 @@ fn seven_keys(rng: &mut Rng) -> Scene {
         }
     }
     if rng.chance(50) {
-        mark(rng, &mut made, left_out);
+        put_labels(rng, &mut made, left_out);
     }
     let column = if rng.chance(70) { left_out } else { rng.below(8) };
     let group = step(7, 255 - (1 << left_out), rng.below(5) as u8, column as u8, 0, 0);
@@ -151,10 +161,10 @@ fn filter_not_clear(rng: &mut Rng) -> Scene {
     let mut made = clear(rng, columns, rows);
     let (one, two) = (rng.below(columns), rng.below(columns));
     if rng.chance(70) {
-        mark(rng, &mut made, one);
+        put_labels(rng, &mut made, one);
     }
     if rng.chance(70) {
-        mark(rng, &mut made, two);
+        put_labels(rng, &mut made, two);
     }
     if rng.chance(30) {
         // Both in the same row.
@@ -211,7 +221,7 @@ fn group_refused(rng: &mut Rng) -> Scene {
     }
     if rng.chance(30) {
         let key = rng.below(columns);
-        mark(rng, &mut made, key);
+        put_labels(rng, &mut made, key);
     }
     let group = step(7, mask, rng.below(5) as u8, column as u8, 0, 0);
     Scene { tables: vec![made], steps: vec![scan(0), group] }
@@ -225,7 +235,7 @@ fn join_not_clear(rng: &mut Rng) -> Scene {
         let mut made = clear(rng, columns, rows);
         keys[side] = rng.below(columns);
         if rng.chance(if side == 0 { 40 } else { 70 }) {
-            mark(rng, &mut made, keys[side]);
+            put_labels(rng, &mut made, keys[side]);
         }
         tables.push(made);
     }
@@ -277,14 +287,14 @@ fn sums_at_the_ends(rng: &mut Rng) -> Scene {
     let cells = values.iter().flat_map(|&value| [(7, 0), (value, word)]).collect();
     let code = rng.pick(&[1, 1, 1, 2, 3, 4, 4]);
     let group = step(7, rng.below(2) as u8, code, 1, 0, 0);
-    Scene { tables: vec![RawTable { columns: 2, cells }], steps: vec![scan(0), group] }
+    Scene { tables: vec![RawTable::new(2, cells)], steps: vec![scan(0), group] }
 }
 
 fn over_before_a_stage(rng: &mut Rng) -> Scene {
     let word = label(rng, 2) & !(1 << 31);
     let cells = vec![(HIGHEST, 0), (1, 0), (1, rng.pick(&[0, word])), (2, word)];
     let add = step(6, 0, 0, 0, 0, 1);
-    Scene { tables: vec![RawTable { columns: 2, cells }], steps: vec![scan(0), add] }
+    Scene { tables: vec![RawTable::new(2, cells)], steps: vec![scan(0), add] }
 }
 
 /// Two labels composed by a GROUP that discharges neither, and a second GROUP
@@ -312,7 +322,7 @@ fn group_a_composed_label(rng: &mut Rng) -> Scene {
     }
     let (one, two) = (rng.below(5) as u8, rng.below(5) as u8);
     let steps = vec![scan(0), step(7, 3, one, 2, 0, 0), step(7, 1, two, 2, 0, 0)];
-    Scene { tables: vec![RawTable { columns: 3, cells }], steps }
+    Scene { tables: vec![RawTable::new(3, cells)], steps }
 }
 
 /// A table of any width, released as it is: values of any number of digits, and
@@ -331,7 +341,7 @@ fn any_digits(rng: &mut Rng) -> Scene {
         let signed = if rng.chance(50) { -value } else { value };
         cells.push((signed.clamp(LOWEST, HIGHEST), 0));
     }
-    Scene { tables: vec![RawTable { columns, cells }], steps: vec![scan(0)] }
+    Scene { tables: vec![RawTable::new(columns, cells)], steps: vec![scan(0)] }
 }
 
 /// 256 rows of 8 values -2^47; sometimes one of them is another.
@@ -340,7 +350,7 @@ fn longest_text(rng: &mut Rng) -> Scene {
     if rng.chance(30) {
         cells[rng.below(256 * 8)].0 = number(rng);
     }
-    Scene { tables: vec![RawTable { columns: 8, cells }], steps: vec![scan(0)] }
+    Scene { tables: vec![RawTable::new(8, cells)], steps: vec![scan(0)] }
 }
 
 /// N without its noise bit.
@@ -425,7 +435,7 @@ fn noise_at_the_ends(rng: &mut Rng) -> Scene {
     if rng.chance(70) {
         steps.push(step(4, 0, 5, 0, 0, LOWEST));
     }
-    Scene { tables: vec![RawTable { columns: 1, cells }], steps }
+    Scene { tables: vec![RawTable::new(1, cells)], steps }
 }
 
 /// A label of N below A, mostly below T as well, taken off stage by stage;
@@ -444,7 +454,7 @@ fn noise_ends_a_chain(rng: &mut Rng) -> Scene {
     }
     let cells =
         (0..rows).flat_map(|_| [(rng.between(0, 1), 0), (rng.between(-9_999, 9_999), word)]);
-    let tables = vec![RawTable { columns: 2, cells: cells.collect() }];
+    let tables = vec![RawTable::new(2, cells.collect())];
     let mut steps = vec![scan(0)];
     if transformed {
         steps.push(step(6, 1, code, 0, 0, digits + rng.between(0, 1)));
@@ -469,5 +479,5 @@ fn noise_beside_locked(rng: &mut Rng) -> Scene {
         steps.extend([step(6, 1, 0, 0, 0, number(rng)), step(6, 0, 0, 0, 0, 1)]);
     }
     steps.push(keep(rng.pick(&[1, 1, 9])));
-    Scene { tables: vec![RawTable { columns: 2, cells }], steps }
+    Scene { tables: vec![RawTable::new(2, cells)], steps }
 }

@@ -151,7 +151,7 @@ pub fn refused(answer: [u32; 4], steps: usize, room: usize, classes: &mut Classe
 pub fn refused_before(number: u32, room: usize, classes: &mut Classes) {
     let [empty, long] = match number {
         1 => ["1 with an empty text slice", "1 with a long text slice"],
-        11..=19 => ["11 to 19 with an empty text slice", "11 to 19 with a long text slice"],
+        11..=20 => ["11 to 20 with an empty text slice", "11 to 20 with a long text slice"],
         31 => ["31 with an empty text slice", "31 with a long text slice"],
         32 => ["32 with an empty text slice", "32 with a long text slice"],
         33 => ["33 with an empty text slice", "33 with a long text slice"],

@@ -1,10 +1,11 @@
 //! "The container", and what is "refused because of the input". "Checked in
 //! this order: 11; 12; for each table 13, then for each cell 14, 15; then 16;
-//! then for each step 17, 18, 19."
+//! then for each step 17, 18, 19." Document 02's 20 comes "after all 14 and 15 of
+//! the table".
 
 use super::label::Label;
 use super::steps::{Step, STEP_BYTES};
-use super::table::{Cell, Table};
+use super::table::{Cell, Mark, Table};
 use super::value::{in_range, Value};
 use std::ops::Range;
 
@@ -24,6 +25,7 @@ pub enum InputFault {
     Field,
     Tables,
     Shape,
+    Sheets,
 }
 
 impl InputFault {
@@ -38,6 +40,7 @@ impl InputFault {
             InputFault::Field => 17,
             InputFault::Tables => 18,
             InputFault::Shape => 19,
+            InputFault::Sheets => 20,
         }
     }
 }
@@ -62,8 +65,8 @@ pub struct Container {
 pub fn parse(bytes: &[u8]) -> Result<Container, InputRefusal> {
     let parts = directory(bytes)?;
     let mut tables = Vec::new();
-    for part in &parts[1..] {
-        tables.push(table(bytes, part.clone())?);
+    for (number, part) in parts[1..].iter().enumerate() {
+        tables.push(table(bytes, part.clone(), number)?);
     }
     let plan = plan(bytes, parts[0].clone(), &tables)?;
     Ok(Container { tables, plan })
@@ -113,32 +116,59 @@ fn directory(bytes: &[u8]) -> Result<Vec<Range<usize>>, InputRefusal> {
 
 /// "Table: byte 0 columns 1 to 8, byte 1 zero, then 16-bit rows 0 to 256, then
 /// the cells row by row, each a signed 64-bit value and a label. Part length is
-/// 4 + 12 × rows × columns."
-fn table(bytes: &[u8], part: Range<usize>) -> Result<Table, InputRefusal> {
+/// 4 + 12 × rows × columns." By #103 "13 no longer tests byte 1".
+fn table(bytes: &[u8], part: Range<usize>, number: usize) -> Result<Table, InputRefusal> {
     let start = part.start;
     if part.len() < 4 {
         return refuse(InputFault::TableHeader, start);
     }
     let columns = bytes[start] as usize;
     let rows = u16_at(bytes, start + 2);
-    let header = (1..=8).contains(&columns) && bytes[start + 1] == 0 && rows <= MOST_ROWS;
+    let header = (1..=8).contains(&columns) && rows <= MOST_ROWS;
     if !header || part.len() != 4 + CELL_BYTES * rows * columns {
         return refuse(InputFault::TableHeader, start);
     }
-    let mut table = Table { columns, cells: Vec::with_capacity(rows * columns) };
+    let mut cells = Vec::with_capacity(rows * columns);
     for cell in 0..rows * columns {
         let field = start + 4 + CELL_BYTES * cell;
-        let number = i64_at(bytes, field);
-        if !in_range(number) {
+        let value = i64_at(bytes, field);
+        if !in_range(value) {
             return refuse(InputFault::ValueRange, field);
         }
         let label = match Label::from_word(u32_at(bytes, field + 8)) {
             Some(label) => label,
             None => return refuse(InputFault::IllFormedLabel, field + 8),
         };
-        table.cells.push(Cell { value: Value::Known(number), label });
+        cells.push(Cell { value: Value::Known(value), label });
     }
-    Ok(table)
+    // "It refuses with 20 .. the place is the table part."
+    match marks(bytes[start + 1], number, columns, cells.chunks(columns)) {
+        Some(marks) => Ok(Table { columns, cells, marks }),
+        None => refuse(InputFault::Sheets, start),
+    }
+}
+
+/// The marks of the rows of table `number`: "Byte 1 of a table is zero, or one
+/// more than the column of sheet numbers." `None` is 20: "when byte 1 names no
+/// column or a sheet cell is negative or not clear".
+fn marks<'a>(
+    byte: u8,
+    number: usize,
+    columns: usize,
+    rows: impl Iterator<Item = &'a [Cell]>,
+) -> Option<Vec<Mark>> {
+    match byte as usize {
+        0 => Some(rows.enumerate().map(|(row, _)| Mark::Own { table: number, row }).collect()),
+        above if above <= columns => rows.map(|row| sheet(row[above - 1])).collect(),
+        _ => None,
+    }
+}
+
+fn sheet(cell: Cell) -> Option<Mark> {
+    match cell.value {
+        Value::Known(number) if number >= 0 && cell.label.is_clear() => Some(Mark::Sheet(number)),
+        _ => None,
+    }
 }
 
 /// "Plan: 1 to 64 steps of 16 bytes." "A plan that leaves other than one table

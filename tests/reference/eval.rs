@@ -4,7 +4,7 @@
 use super::container::{Container, MOST_ROWS};
 use super::label::Label;
 use super::steps::{columns_of, Aggregate, Comparison, Operand, Operation, Step};
-use super::table::{Cell, Table};
+use super::table::{distinct, Cell, Table};
 use super::value::{aggregate, Value};
 use std::collections::HashMap;
 
@@ -93,7 +93,7 @@ pub fn evaluate(container: &Container, draws: &[i64]) -> Evaluation {
 }
 
 /// "35: at release a cell has a stage left. 36: no 35, but a cell is OVER."
-fn judge(last: Table) -> Result<Table, Stop> {
+pub fn judge(last: Table) -> Result<Table, Stop> {
     let place = |index: usize| (index / last.columns, index % last.columns);
     if let Some(index) = last.cells.iter().position(|cell| !cell.label.is_clear()) {
         let (row, column) = place(index);
@@ -107,7 +107,8 @@ fn judge(last: Table) -> Result<Table, Stop> {
 }
 
 /// Takes the tables that the step reads from the stack, and the draws that it
-/// uses; answers the table made.
+/// uses; answers the table made. Document 02, #103: "Marks survive FILTER, KEEP,
+/// APPLY, NOISE and UNION."
 pub fn perform(
     step: &Step,
     tables: &[Table],
@@ -152,11 +153,13 @@ fn union(mut left: Table, right: Table) -> Result<Table, Stop> {
         return stop(StateFault::TooManyRows, 256, 0);
     }
     left.cells.extend(right.cells);
+    left.marks.extend(right.marks);
     Ok(left)
 }
 
 /// "For each left row, each matching right row in order; left columns, then
-/// right columns without the key." "OVER matches nothing in a join."
+/// right columns without the key." "OVER matches nothing in a join." "A joined
+/// row takes the left mark", #103.
 fn join(left: &Table, right: &Table, left_key: usize, right_key: usize) -> Result<Table, Stop> {
     require_clear(left, &[left_key], 0)?;
     require_clear(right, &[right_key], left.rows())?;
@@ -184,6 +187,7 @@ fn join(left: &Table, right: &Table, left_key: usize, right_key: usize) -> Resul
             made.cells.extend_from_slice(left.row(row));
             made.cells.extend_from_slice(&other[..right_key]);
             made.cells.extend_from_slice(&other[right_key + 1..]);
+            made.marks.push(left.marks[row]);
         }
     }
     Ok(made)
@@ -210,6 +214,7 @@ fn filter(
         };
         if cells[column].value.satisfies(comparison, second) {
             made.cells.extend_from_slice(cells);
+            made.marks.push(table.marks[row]);
         }
     }
     Ok(made)
@@ -223,6 +228,7 @@ fn keep(table: &Table, mask: u8) -> Table {
         let cells = table.row(row);
         made.cells.extend(kept.iter().map(|&column| cells[column]));
     }
+    made.marks.extend(&table.marks);
     made
 }
 
@@ -262,11 +268,14 @@ fn apply(table: &Table, column: usize, operation: Operation) -> Result<Table, St
         made.cells.extend_from_slice(cells);
         made.cells.push(Cell { value, label });
     }
+    made.marks.extend(&table.marks);
     Ok(made)
 }
 
 /// "Groups in order of first appearance: keys, then the aggregate, whose label
-/// is the composition of each cell's label discharged at level A."
+/// is the composition of each cell's label discharged at level A." By #103 "the
+/// group minimum shall count distinct sheets", those of all rows of the group, and
+/// "a group row takes its first row's mark".
 fn group(table: &Table, mask: u8, kind: Aggregate, column: usize) -> Result<Table, Stop> {
     let keys: Vec<usize> = columns_of(mask).collect();
     require_clear(table, &keys, 0)?;
@@ -290,15 +299,17 @@ fn group(table: &Table, mask: u8, kind: Aggregate, column: usize) -> Result<Tabl
     let mut made = Table::new(keys.len() + 1);
     for rows in groups {
         let values: Vec<Value> = rows.iter().map(|&row| table.row(row)[column].value).collect();
+        let sheets = distinct(rows.iter().map(|&row| table.marks[row]));
         let mut label = Label::default();
         for &row in &rows {
             let cell = table.row(row)[column].label;
-            let left = cell.after_aggregate(kind, rows.len()).expect("tested above");
+            let left = cell.after_aggregate(kind, sheets).expect("tested above");
             label = label.compose(&left);
         }
         let first = table.row(rows[0]);
         made.cells.extend(keys.iter().map(|&key| first[key]));
         made.cells.push(Cell { value: aggregate(kind, &values), label });
+        made.marks.push(table.marks[rows[0]]);
     }
     Ok(made)
 }
@@ -326,5 +337,6 @@ fn noise(table: &Table, column: usize, draws: &mut Draws) -> Result<Table, Stop>
         made.cells.extend_from_slice(cells);
         made.cells.push(Cell { value: value.add_draw(draw), label });
     }
+    made.marks.extend(&table.marks);
     Ok(made)
 }

@@ -145,13 +145,13 @@ impl Label {
         }
     }
 
-    /// Discharge at level A, in a group of that many rows.
-    pub fn after_aggregate(&self, aggregate: Aggregate, rows: usize) -> Result<Label, Forbidden> {
+    /// Discharge at level A, in a group of that many sheets.
+    pub fn after_aggregate(&self, aggregate: Aggregate, sheets: usize) -> Result<Label, Forbidden> {
         if self.held || self.transform.is_some() {
             return Err(Forbidden);
         }
         match self.aggregate {
-            Some(stage) if stage.allows(aggregate) && rows >= stage.minimum as usize => {
+            Some(stage) if stage.allows(aggregate) && sheets >= stage.minimum as usize => {
                 Ok(Label { aggregate: None, ..*self })
             }
             _ => Ok(*self),

@@ -3,7 +3,7 @@
 //!     WORD                            the word's test, stages and highest stage
 //!     WORD with WORD                  a composition
 //!     WORD transform NUMBER digits K  a discharge at level T
-//!     WORD aggregate NUMBER rows K    a discharge at level A
+//!     WORD aggregate NUMBER sheets K  a discharge at level A
 //!     WORD noise                      a discharge at level N
 //!
 //! with words of eight hexadecimal digits. "b = 0 add, 1 sub, 2 cut, 3 band",
@@ -21,8 +21,8 @@ pub fn line(question: &str) -> Option<String> {
         [word, "transform", number, "digits", digits] => {
             transform(hexadecimal(word)?, number.parse().ok()?, digits.parse().ok()?)
         }
-        [word, "aggregate", number, "rows", rows] => {
-            aggregate(hexadecimal(word)?, number.parse().ok()?, rows.parse().ok()?)
+        [word, "aggregate", number, "sheets", sheets] => {
+            aggregate(hexadecimal(word)?, number.parse().ok()?, sheets.parse().ok()?)
         }
         [word, "noise"] => noise(hexadecimal(word)?),
         _ => return None,
@@ -75,7 +75,7 @@ fn transform(word: u32, number: u32, digits: u32) -> String {
     shown(label.after_operation(&operation))
 }
 
-fn aggregate(word: u32, number: u32, rows: usize) -> String {
+fn aggregate(word: u32, number: u32, sheets: usize) -> String {
     let label = match Label::from_word(word) {
         Some(label) => label,
         None => return ILL_FORMED.to_string(),
@@ -88,7 +88,7 @@ fn aggregate(word: u32, number: u32, rows: usize) -> String {
         4 => Aggregate::Avg,
         _ => return NO_OPERATION.to_string(),
     };
-    shown(label.after_aggregate(aggregate, rows))
+    shown(label.after_aggregate(aggregate, sheets))
 }
 
 /// Of level N there is one operation, so none that does not exist.

@@ -1,22 +1,23 @@
 //! A reference implementation of the release monitor, for tests only.
 //!
 //! Written from document 01, "The release monitor and its labels", and from
-//! requests #101 and #102 of document 02, and nothing else. Each module names
+//! requests #101 to #103 of document 02, and nothing else. Each module names
 //! the sentences that it follows:
 //!
 //! - `label`: "The label, one 32-bit word"
 //! - `value`: "Values"
 //! - `steps`: "Steps on a stack of at most three tables", #102's NOISE, and 17
 //!   to 19
-//! - `container`: "The container", and 11 to 16
-//! - `table`: the tables that steps read and make
+//! - `container`: "The container", 11 to 16, and 20
+//! - `table`: the tables that steps read and make, with #103's marks
 //! - `eval`: what the steps do, and 31 to 37
 //! - `text`: a released table as text, #101
 //! - `release`: `run`, `check`, 1, 51, and what becomes of the lent slices
 //!
 //! Labels are structures of optional stages, values an enum with a case for
-//! OVER, tables vectors of cells; joins and groups use hash maps; every sum is
-//! exact in 128 bits.
+//! OVER, marks one with a case for sheet numbers and one for rows, tables vectors
+//! of cells and marks; joins and groups use hash maps; every sum is exact in 128
+//! bits.
 
 pub mod container;
 pub mod eval;

@@ -27,7 +27,7 @@ mod label_trials;
 mod step_trials;
 
 use reference::container::parse;
-use reference::release::{OUTPUT_LENGTH, TEXT_LENGTH, TRACE_LENGTH, WORK_LENGTH};
+use reference::release::{MARKS_LENGTH, OUTPUT_LENGTH, TEXT_LENGTH, TRACE_LENGTH, WORK_LENGTH};
 use reference::{run, Answer};
 use std::fmt::{Display, Write as _};
 use std::io::{self, Read, Write};
@@ -162,11 +162,20 @@ struct Left {
 fn run_in(room: usize, container: &[u8], draws: &[i64]) -> Left {
     let mut values = vec![0i64; WORK_LENGTH];
     let mut labels = vec![0u32; WORK_LENGTH];
+    let mut marks = vec![0u64; MARKS_LENGTH];
     let mut output = vec![0i64; OUTPUT_LENGTH];
     let mut trace = vec![0u32; TRACE_LENGTH];
     let mut text = vec![0u8; room];
-    let answer =
-        run(container, draws, &mut values, &mut labels, &mut output, &mut trace, &mut text);
+    let answer = run(
+        container,
+        draws,
+        &mut values,
+        &mut labels,
+        &mut marks,
+        &mut output,
+        &mut trace,
+        &mut text,
+    );
     Left { answer, output, trace, text }
 }
 
@@ -240,6 +249,9 @@ mod examples;
 
 #[cfg(test)]
 mod noise_examples;
+
+#[cfg(test)]
+mod sheet_examples;
 
 #[cfg(test)]
 mod text_examples;

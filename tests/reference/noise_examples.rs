@@ -3,6 +3,7 @@
 use super::reference::check;
 use super::reference::label::{Forbidden, Label};
 use super::reference::value::{Value, HIGHEST, LOWEST};
+use super::sheet_examples;
 use super::text_examples::lent;
 use super::{draws, label_trials, print_run, step_trials, NO_DRAWS};
 
@@ -15,9 +16,9 @@ const H: u32 = 0x8000_0000;
 const T: u32 = 0x4000_0000;
 const A: u32 = 0x2000_0001;
 
-type Record = [u8; 16];
+pub type Record = [u8; 16];
 
-fn record(kind: u8, a: u8, b: u8, c: u8, constant: i64) -> Record {
+pub fn record(kind: u8, a: u8, b: u8, c: u8, constant: i64) -> Record {
     let mut bytes = [0; 16];
     bytes[..4].copy_from_slice(&[kind, a, b, c]);
     bytes[8..].copy_from_slice(&constant.to_le_bytes());
@@ -26,34 +27,21 @@ fn record(kind: u8, a: u8, b: u8, c: u8, constant: i64) -> Record {
 
 const SCAN: Record = [1, 0, 0, 0, 0, 0, 0, 0, 0, 0, 0, 0, 0, 0, 0, 0];
 
-fn noise(column: u8) -> Record {
+pub fn noise(column: u8) -> Record {
     record(8, column, 0, 0, 0)
 }
 
-fn keep(mask: u8) -> Record {
+pub fn keep(mask: u8) -> Record {
     record(5, mask, 0, 0, 0)
 }
 
-fn add(column: u8, constant: i64) -> Record {
+pub fn add(column: u8, constant: i64) -> Record {
     record(6, column, 0, 0, constant)
 }
 
 /// A container with this plan and one table of so many columns.
 fn container(plan: &[Record], columns: usize, cells: &[(i64, u32)]) -> Vec<u8> {
-    let (plan, rows) = (plan.concat(), cells.len() / columns);
-    let table = 4 + 12 * cells.len();
-    let mut bytes = vec![2, 0];
-    for number in [18, plan.len(), 18 + plan.len(), table] {
-        bytes.extend((number as u32).to_le_bytes());
-    }
-    bytes.extend(plan);
-    bytes.extend([columns as u8, 0]);
-    bytes.extend((rows as u16).to_le_bytes());
-    for (value, label) in cells {
-        bytes.extend(value.to_le_bytes());
-        bytes.extend(label.to_le_bytes());
-    }
-    bytes
+    sheet_examples::container(plan, &[(columns, 0, cells)])
 }
 
 /// What is printed of a plan that begins with SCAN, over a table of one column.

@@ -7,6 +7,7 @@ use super::text;
 use super::value::Value;
 
 pub const WORK_LENGTH: usize = 8_192;
+pub const MARKS_LENGTH: usize = 1_024;
 pub const OUTPUT_LENGTH: usize = 2_048;
 pub const TRACE_LENGTH: usize = 256;
 /// Room for every text: the longest has 256 rows of 8 values -2^47.
@@ -61,6 +62,7 @@ pub fn run(
     draws: &[i64],
     work_values: &mut [i64],
     work_labels: &mut [u32],
+    work_marks: &mut [u64],
     output: &mut [i64],
     trace: &mut [u32],
     lent_text: &mut [u8],
@@ -69,6 +71,7 @@ pub fn run(
     // and the draws are not among those that it tests.
     if work_values.len() < WORK_LENGTH
         || work_labels.len() < WORK_LENGTH
+        || work_marks.len() < MARKS_LENGTH
         || output.len() < OUTPUT_LENGTH
         || trace.len() < TRACE_LENGTH
     {
@@ -88,6 +91,9 @@ pub fn run(
     // "Both leave the first 8,192 elements of both work slices zero."
     work_values[..WORK_LENGTH].fill(0);
     work_labels[..WORK_LENGTH].fill(0);
+    // #103: "A further work slice of 1,024 marks is lent, tested under 1 and
+    // left zero."
+    work_marks[..MARKS_LENGTH].fill(0);
 
     let table = match evaluation.outcome {
         Err(refusal) => return Answer::State(refusal),

@@ -9,7 +9,8 @@
 //! hexadecimal each; or, of one column, `7:0 .. 8:0 of 129 rows`: the first row,
 //! and the one that all others are. `; one more` is a fourth table. What stands
 //! behind `#` is read and not printed. A NOISE has the draws that are left among
-//! its words, `NOISE 1 with 5,-3,7`, or `NOISE 1 with none`.
+//! its words, `NOISE 1 with 5,-3,7`, or `NOISE 1 with none`. No table has a column
+//! of sheet numbers: each row has a mark of its own.
 //!
 //! A line of the output is that of the input up to `#`, and the answer. So what
 //! the program prints of a case, which it takes from the step that it read and
@@ -23,14 +24,14 @@
 use super::reference::container::{parse, MOST_ROWS};
 use super::reference::eval::{perform, Stop};
 use super::reference::label::{present, Label};
-use super::reference::release::WORK_LENGTH;
+use super::reference::release::{MARKS_LENGTH, WORK_LENGTH};
 use super::reference::steps::{Aggregate, Comparison, Operand, Operation, Step};
 use super::reference::steps::{MOST_COLUMNS, MOST_TABLES};
-use super::reference::table::{Cell, Table};
+use super::reference::table::{Cell, Mark, Table};
 use super::reference::value::{in_range, Value, HIGHEST};
 use std::str::FromStr;
 
-/// The elements of each work slice that a case lends, unless it says less.
+/// The values and labels that a case lends, unless it says less.
 const LENT: usize = 8_200;
 
 /// A cell as a case has it, its label perhaps ill-formed.
@@ -49,6 +50,7 @@ struct Case<'a> {
     words: Vec<&'a str>,
     values: usize,
     labels: usize,
+    marks: usize,
     stack: Vec<GivenTable>,
 }
 
@@ -96,10 +98,11 @@ impl<'a> Case<'a> {
     fn read(line: &'a str) -> Option<Case<'a>> {
         let (words, rest) = line.split_once(": ").unwrap_or((line, "no tables"));
         let less = WORK_LENGTH - 1;
-        let (values, labels, tables) = match rest.split_once(", ") {
-            Some(("8191 values", tables)) => (less, LENT, tables),
-            Some(("8191 labels", tables)) => (LENT, less, tables),
-            _ => (LENT, LENT, rest),
+        let (values, labels, marks, tables) = match rest.split_once(", ") {
+            Some(("8191 values", tables)) => (less, LENT, MARKS_LENGTH, tables),
+            Some(("8191 labels", tables)) => (LENT, less, MARKS_LENGTH, tables),
+            Some(("1023 marks", tables)) => (LENT, LENT, MARKS_LENGTH - 1, tables),
+            _ => (LENT, LENT, MARKS_LENGTH, rest),
         };
         let (tables, more) = match tables.strip_suffix("; one more") {
             Some(tables) => (tables, true),
@@ -114,7 +117,7 @@ impl<'a> Case<'a> {
         }
         let deep = if more { MOST_TABLES + 1 } else { stack.len().min(MOST_TABLES) };
         let words = words.split(' ').collect();
-        (stack.len() == deep).then_some(Case { words, values, labels, stack })
+        (stack.len() == deep).then_some(Case { words, values, labels, marks, stack })
     }
 
     fn answer(&self, container: &[u8]) -> Option<String> {
@@ -134,8 +137,9 @@ impl<'a> Case<'a> {
         let made = match self.fitting(container)? {
             None => return Some("does not fit".to_string()),
             Some((step, tables)) => {
+                let given = self.stack.iter().enumerate();
                 let mut stack: Vec<Table> =
-                    self.stack.iter().map(GivenTable::labelled).collect::<Option<_>>()?;
+                    given.map(|(place, table)| table.labelled(place)).collect::<Option<_>>()?;
                 perform(&step, &tables, &mut stack, &mut draws.iter()).map(|made| {
                     stack.push(made);
                     stack
@@ -166,6 +170,7 @@ impl<'a> Case<'a> {
         let mut stack: Vec<usize> = self.stack.iter().map(|table| table.columns).collect();
         let widths: Vec<usize> = tables.iter().map(|table| table.columns).collect();
         let fits = self.values.min(self.labels) >= WORK_LENGTH
+            && self.marks >= MARKS_LENGTH
             && self.stack.len() <= MOST_TABLES
             && self.stack.iter().all(GivenTable::fits)
             && step.shape(&mut stack, &widths).is_ok()
@@ -234,7 +239,7 @@ impl<'a> Case<'a> {
     fn clear(&self) -> Option<String> {
         let mut memory = self.only_table()?.in_memory()?;
         memory.truncate(self.values.min(self.labels));
-        let fits = memory.len() >= WORK_LENGTH;
+        let fits = memory.len() >= WORK_LENGTH && self.marks >= MARKS_LENGTH;
         if fits {
             memory[..WORK_LENGTH].fill(Given { value: Value::Known(0), word: 0 });
         }
@@ -287,11 +292,18 @@ impl GivenTable {
         self.columns <= MOST_COLUMNS && self.cells.len() <= MOST_ROWS * self.columns
     }
 
-    fn labelled(&self) -> Option<Table> {
+    fn rows(&self) -> usize {
+        self.cells.len() / self.columns
+    }
+
+    /// As the table at this place of the stack; each row has a mark of its own.
+    fn labelled(&self, place: usize) -> Option<Table> {
         let cells = self.cells.iter().map(|cell| {
             Label::from_word(cell.word).map(|label| Cell { value: cell.value, label })
         });
-        Some(Table { columns: self.columns, cells: cells.collect::<Option<_>>()? })
+        let cells = cells.collect::<Option<_>>()?;
+        let marks = (0..self.rows()).map(|row| Mark::Own { table: place, row }).collect();
+        Some(Table { columns: self.columns, cells, marks })
     }
 
     /// The table at the start of work memory; its last cell stands in every

@@ -1,7 +1,9 @@
 //! Document 02's sentences on the text of a release, #101, as examples.
 
 use super::examples::printed_case;
-use super::reference::release::{OUTPUT_LENGTH, TEXT_LENGTH, TRACE_LENGTH, WORK_LENGTH};
+use super::reference::release::{
+    MARKS_LENGTH, OUTPUT_LENGTH, TEXT_LENGTH, TRACE_LENGTH, WORK_LENGTH,
+};
 use super::reference::run;
 use super::reference::text;
 use super::reference::value::{HIGHEST, LOWEST};
@@ -73,6 +75,7 @@ fn answers_by_the_room_for_the_text() {
 pub struct Lent {
     values: Vec<i64>,
     labels: Vec<u32>,
+    pub marks: Vec<u64>,
     pub output: Vec<i64>,
     trace: Vec<u32>,
     text: Vec<u8>,
@@ -82,6 +85,7 @@ pub fn lent(room: usize) -> Lent {
     Lent {
         values: vec![-5; WORK_LENGTH + 1],
         labels: vec![5; WORK_LENGTH + 1],
+        marks: vec![5; MARKS_LENGTH + 1],
         output: vec![-5; OUTPUT_LENGTH + 1],
         trace: vec![5; TRACE_LENGTH + 1],
         text: vec![b'?'; room],
@@ -90,14 +94,15 @@ pub fn lent(room: usize) -> Lent {
 
 impl Lent {
     pub fn run(&mut self, container: &[u8], draws: &[i64]) -> [u32; 4] {
-        let Lent { values, labels, output, trace, text } = self;
-        run(container, draws, values, labels, output, trace, text).numbers()
+        let Lent { values, labels, marks, output, trace, text } = self;
+        run(container, draws, values, labels, marks, output, trace, text).numbers()
     }
 
     /// Work memory is zero, and the trace begins with these lines.
     pub fn ran(mut self, lines: &[u32]) -> Lent {
         self.values[..WORK_LENGTH].fill(0);
         self.labels[..WORK_LENGTH].fill(0);
+        self.marks[..MARKS_LENGTH].fill(0);
         self.trace[..lines.len()].copy_from_slice(lines);
         self
     }
@@ -136,16 +141,17 @@ fn lent_slices_after_35() {
     }
 }
 
-/// 1 tests four slices, and not the text's.
+/// 1 tests five slices, and not the text's.
 #[test]
 fn short_slices() {
     for room in [0, 12] {
-        for slice in 0..4 {
+        for slice in 0..5 {
             let mut short = lent(room);
             match slice {
                 0 => short.values.truncate(WORK_LENGTH - 1),
                 1 => short.labels.truncate(WORK_LENGTH - 1),
-                2 => short.output.truncate(OUTPUT_LENGTH - 1),
+                2 => short.marks.truncate(MARKS_LENGTH - 1),
+                3 => short.output.truncate(OUTPUT_LENGTH - 1),
                 _ => short.trace.truncate(TRACE_LENGTH - 1),
             }
             let mut left = short.clone();

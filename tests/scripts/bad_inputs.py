@@ -4,7 +4,7 @@ NUMBER = "a number has decimal digits and, below zero, a minus before them"
 MEANT = "what is meant to be wrong says so in its section 'answer'"
 REPEAT = "a repetition is written 'repeat N: LINE', with a space behind the colon"
 PAIRS = "bytes are pairs of hexadecimal digits, as in '00 FF'"
-MINIMUM = "A(sum,10) asks for a sum over at least 10 rows"
+MINIMUM = "A(sum,10) asks for a sum over at least 10 sheets"
 COLON = "has a colon and no label right behind it; a clear cell is '5', a labelled one '5:A(sum,2)'"
 BRACKET = "has a bracket without its other one; a label has no spaces"
 LABEL = "is no label; a label has eight hexadecimal digits, or stages as A(sum,2)"
@@ -13,6 +13,7 @@ FIELD = "is no field with its number, each once; the fields are kind a b c d spa
 NAME = "a container is begun by 'container' and one name of a to z, 0 to 9 and _, of at most 100 characters"
 TOO_MUCH = "makes more than 16,777,216 bytes and repeated characters to here"
 BLAME = "the output was changed, is not that of CONTAINER, or is misread by this script"
+TABLE = "a table is begun by 'table' and its number of columns, as in 'table 2', and with sheet numbers in its column 0 'table 2 sheets 0'"
 ANSWERS = "'answers check', 'answers run' or 'answers noise' stands before the first container"
 SCALE = "is not a number above 0, as 3, 1/2 or 2.5, of at most 9 and 9 digits; -h prints help"
 
@@ -184,8 +185,31 @@ TEXTS = [
         1,
         f"its part count is 10, and it is 2 to 9: the plan and 1 to 8 tables (11 at byte 0; {MEANT})",
     ),
-    (GOOD_TEXT + "table\n", 7, "a table is begun by 'table' and its number of columns, as in 'table 2'"),
+    (GOOD_TEXT + "table\n", 7, TABLE),
+    (GOOD_TEXT + "table 2 0\n", 7, TABLE),
+    (GOOD_TEXT + "table 2 sheets\n", 7, TABLE),
+    (GOOD_TEXT + "table 2 sheet 0\n", 7, TABLE),
+    (GOOD_TEXT + "table 2 sheets 0 1\n", 7, TABLE),
     (GOOD_TEXT + "table 300\n", 7, "the number of columns '300' is not between 0 and 255"),
+    (GOOD_TEXT + "table 2 sheets x\n", 7, f"'x' is not a number; {NUMBER}"),
+    (GOOD_TEXT + "table 2 sheets -1\n", 7, "the column of sheet numbers '-1' is not between 0 and 254"),
+    (GOOD_TEXT + "table 2 sheets 255\n", 7, "the column of sheet numbers '255' is not between 0 and 254"),
+    (
+        GOOD_TEXT + "table 2 sheets 2\n  1 2\n",
+        7,
+        "table 1: its byte 1 is 3, for sheet numbers in column 2, and column 2 does not exist: the table has 2 columns, 0 to 1"
+        f" (20 at byte 58; {MEANT})",
+    ),
+    (
+        GOOD_TEXT + "table 2 sheets 1\n  1 2\n  1 -2\n",
+        7,
+        f"table 1, row 1, column 1 is a sheet number, and it is negative (20 at byte 58; {MEANT})",
+    ),
+    (
+        "container a\n# x\nplan\ntable 2 sheets 0\n  1:A(sum,2) 2\n",
+        4,
+        f"table 0, row 0, column 0 is a sheet number, and it is not clear, with the label A(sum,2) (20 at byte 18; {MEANT})",
+    ),
     (GOOD_TEXT + "plan 1\n", 7, "the section 'plan' is begun by a line with this word alone"),
     (GOOD_TEXT + "raw\n", 7, "'raw' is the whole container, so there is no other part"),
     (GOOD_TEXT + "part\n  5\n", 8, "a section 'part' has lines 'bytes 00 FF' and 'zeros 15' alone"),
@@ -193,7 +217,7 @@ TEXTS = [
     (
         GOOD_TEXT + "damage\n  break 5\n",
         8,
-        "'break' is no damage; there are count offset length columns spare rows bytes truncate append",
+        "'break' is no damage; there are count offset length columns rows bytes truncate append",
     ),
     (GOOD_TEXT + "damage\n  count\n", 8, "count has 1 number behind it"),
     (GOOD_TEXT + "damage\n  offset 9 5\n", 8, "byte 77 is past the end"),
@@ -348,6 +372,9 @@ ALONE = [
     ("X 12 99999\n", "line 1: refusal 12 cannot stand at byte 99999"),
     ("X 11 5\n", "line 1: refusal 11 cannot stand at byte 5"),
     ("X 17 19\n", "line 1: refusal 17 cannot stand at byte 19"),
+    ("X 20 17\n", "line 1: refusal 20 cannot stand at byte 17"),
+    ("X 20 1 0 0\n", "line 1: the place of refusal 20 is one number"),
+    ("X 21 34\n", "line 1: refusal 21 does not exist"),
     ("X 12\n", "line 1: the place of refusal 12 is one number"),
     ("X 31 1 0\n", "line 1: the place of refusal 31 is three numbers"),
     ("X 99 0\n", "line 1: refusal 99 does not exist"),

@@ -5,7 +5,7 @@ WORDS = (
     "5: 5:A(sum,2) 5:A(10,sum) T(cut1,cut4) T() H+ 20030000 -1 0 00 01067 0x10 1_000 9999999999999999999999 {i} {i/0} {i*9+1} "
     "repeat repeat 3: 999999: with d=1 STEP kind=9 bytes 00 FF zeros 70000 SCAN UNION JOIN FILTER KEEP APPLY GROUP count sum avg "
     "column = <= cut band add plan table 2 part raw damage answer answers check container append truncate offset X S R 31 35 ; # "
-    "NOISE draws noise N(noise) 37 "
+    "NOISE draws noise N(noise) 37 sheets 20 "
     "\u0663 \u00a0 ( ) , : +"
 ).split(" ")
 CHARACTERS = "0123456789:;(),+-{}#=SRXHTAN \n\t\r\x00\u00e9\u2028"
@@ -107,18 +107,29 @@ LABELS = (
 
 
 def table(rng, labelled):
-    """A table of few rows; each column has labels or none."""
+    """A table of few rows; each column has labels or none, and one may have sheet numbers."""
     columns = rng.randint(1, 4)
-    marked = [labelled and rng.random() < 0.4 for _ in range(columns)]
-    lines = [f"table {columns}"]
-    for _ in range(rng.choice((0, 1, 2, 3, 5, 8))):
-        lines.append("  " + " ".join(cell(rng, one) for one in marked))
-    return columns, lines
+    cells = [labelled_cell if labelled and rng.random() < 0.4 else clear_cell for _ in range(columns)]
+    begun = f"table {columns}"
+    if rng.random() < 0.5:
+        sheets = rng.randrange(columns)
+        cells[sheets] = sheet_number
+        begun += f" sheets {sheets}"
+    rows = rng.choice((0, 1, 2, 3, 5, 8))
+    return columns, [begun] + ["  " + " ".join(cell(rng) for cell in cells) for _ in range(rows)]
 
 
-def cell(rng, marked):
-    label = rng.choice(LABELS) if marked else ""
+def clear_cell(rng):
+    return str(value(rng))
+
+
+def labelled_cell(rng):
+    label = rng.choice(LABELS)
     return f"{value(rng)}:{label}" if label else str(value(rng))
+
+
+def sheet_number(rng):
+    return str(rng.choice((0, 1, 2, 2, 3, 256, 2**47 - 1)))
 
 
 def operand(rng, width):

@@ -5,27 +5,42 @@ STATE = [
     (
         ["SCAN 0", "GROUP 0 sum 1"],
         ["table 2", "repeat 12: 1 5:A(count,sum,10)", "repeat 4: 2 5:A(count,sum,10)"],
-        "Step 1, group 1, first row: row 12 of table 0, has 4 rows; A(count,sum,10) asks for 10.",
+        "Step 1, group 1, first row: row 12 of table 0, has 4 sheets; A(count,sum,10) asks for 10.",
     ),
     (
         ["SCAN 0", "GROUP 0 avg 1"],
         ["table 2", "repeat 12: 1 5:A(count,sum,10)"],
-        "Step 1, group 0, first row: row 0 of table 0, has 12 rows; avg is not among count, sum (A(count,sum,10)).",
+        "Step 1, group 0, first row: row 0 of table 0, has 12 sheets; avg is not among count, sum (A(count,sum,10)).",
     ),
     (
         ["SCAN 0", "GROUP 0 avg 1"],
         ["table 2", "repeat 4: 1 5:A(count,sum,10)"],
-        "has 4 rows; avg is not among count, sum (A(count,sum,10)), and A(count,sum,10) asks for 10.",
+        "has 4 sheets; avg is not among count, sum (A(count,sum,10)), and A(count,sum,10) asks for 10.",
     ),
     (
         ["SCAN 0", "SCAN 1", "JOIN 0 0", "FILTER 0 = 2", "GROUP 2 sum 1"],
         ["table 2", "1 5:A(sum,3)", "2 6:A(sum,3)", "2 7:A(sum,3)", "table 2", "1 9", "2 9"],
-        "Step 4, group 0, first row: row 1 of table 0 joined with row 1 of table 1, has 2 rows; A(sum,3) asks for 3.",
+        "Step 4, group 0, first row: row 1 of table 0 joined with row 1 of table 1, has 2 sheets; A(sum,3) asks for 3.",
     ),
     (
         ["SCAN 0", "SCAN 1", "UNION", "GROUP sum 0"],
         ["table 1", "table 1", "5:A(sum,2)"],
-        "Step 3, group 0, first row: row 0 of table 1, has 1 row; A(sum,2) asks for 2.",
+        "Step 3, group 0, first row: row 0 of table 1, has 1 sheet; A(sum,2) asks for 2.",
+    ),
+    (
+        ["SCAN 0", "SCAN 0", "UNION", "GROUP 0 sum 1"],
+        ["table 2", "repeat 10: 7 5:A(sum,20)"],
+        "Step 3, group 0, first row: row 0 of table 0, has 10 sheets in 20 rows; A(sum,20) asks for 20.",
+    ),
+    (
+        ["SCAN 0", "SCAN 1", "JOIN 0 0", "GROUP 0 sum 1"],
+        ["table 2", "1 5:A(sum,2)", "table 2", "1 8", "1 9"],
+        "first row: row 0 of table 0 joined with row 0 of table 1, has 1 sheet in 2 rows; A(sum,2) asks for 2.",
+    ),
+    (
+        ["SCAN 0", "GROUP 0 1 max 2", "KEEP 0 2", "SCAN 1", "KEEP 1 2", "UNION", "GROUP 0 sum 1"],
+        ["table 3", "7 1 5:A(sum,3)", "7 1 6:A(sum,3)", "table 3 sheets 0", "1 7 5:A(sum,3)", "1 7 6:A(sum,3)"],
+        "Step 6, group 0, first row: group 0 of step 1, has 2 sheets in 3 rows; A(sum,3) asks for 3.",
     ),
     (
         ["SCAN 0", "APPLY 0 cut 3"],
@@ -40,13 +55,13 @@ STATE = [
     (
         ["SCAN 0", "APPLY 0 cut 3", "KEEP 1"],
         ["table 1", "12345:T(cut3)+A(sum,2)"],
-        "T is gone; A(sum,2) asks for a GROUP with sum over at least 2 rows.",
+        "T is gone; A(sum,2) asks for a GROUP with sum over at least 2 sheets.",
     ),
     # 31: a label left on a count, too few digits cut, a raw column
     (
         ["SCAN 0", "GROUP 0 count 1", "FILTER 1 >= 2"],
         ["table 2", "1 5:A(count,3)", "1 6:A(count,3)"],
-        "Step 1, group 0, first row: row 0 of table 0, has 2 rows; A(count,3) asks for 3.",
+        "Step 1, group 0, first row: row 0 of table 0, has 2 sheets; A(count,3) asks for 3.",
     ),
     (
         ["SCAN 0", "APPLY 0 cut 2", "GROUP 1 count 0"],
@@ -77,7 +92,7 @@ STATE = [
     (
         ["SCAN 0", "NOISE 0"],
         ["table 1", "5:T(cut3)+A(count,sum,2)+N(noise)"],
-        "first APPLY cut by at least 3 digits, then GROUP with count or sum over at least 2 rows, then NOISE on the column that the GROUP appends.",
+        "first APPLY cut by at least 3 digits, then GROUP with count or sum over at least 2 sheets, then NOISE on the column that the GROUP appends.",
     ),
     (
         ["SCAN 0", "NOISE 0"],
@@ -87,7 +102,7 @@ STATE = [
     (
         ["SCAN 0", "NOISE 0"],
         ["table 1", "5:A(sum,2)+N(noise)"],
-        "labelled A(sum,2)+N(noise): first GROUP with sum over at least 2 rows, then NOISE on the column that the GROUP appends.",
+        "labelled A(sum,2)+N(noise): first GROUP with sum over at least 2 sheets, then NOISE on the column that the GROUP appends.",
     ),
     (
         ["SCAN 0", "NOISE 0"],
@@ -97,7 +112,7 @@ STATE = [
     (
         ["SCAN 0", "GROUP 0 sum 1", "NOISE 1"],
         ["table 2", "1 5:A(sum,3)+N(noise)", "1 6:A(sum,3)+N(noise)"],
-        "has 2 rows; A(sum,3) asks for 3. The label is A(sum,3)+N(noise): first GROUP with sum over at least 3 rows, then NOISE on the column",
+        "has 2 sheets; A(sum,3) asks for 3. The label is A(sum,3)+N(noise): first GROUP with sum over at least 3 sheets, then NOISE on the column",
     ),
     (
         ["SCAN 0", "NOISE 0"],
@@ -113,7 +128,7 @@ STATE = [
     (
         ["SCAN 0", "GROUP sum 0"],
         ["table 1", "5:A(sum,1)+N(noise)"],
-        "has 1 row; A is gone; N(noise) asks for a NOISE.",
+        "has 1 sheet; A is gone; N(noise) asks for a NOISE.",
     ),
     (
         ["SCAN 0", "FILTER 0 = 5"],
@@ -143,7 +158,7 @@ STATE = [
     (
         ["SCAN 0", "APPLY 0 add column 1"],
         ["table 2", "5 6:A(sum,2)"],
-        "It is row 0, column 1 of table 0 as the container has it, labelled A(sum,2): A(sum,2) asks for a GROUP with sum over at least 2 rows.",
+        "It is row 0, column 1 of table 0 as the container has it, labelled A(sum,2): A(sum,2) asks for a GROUP with sum over at least 2 sheets.",
     ),
     (
         ["SCAN 0", "SCAN 0", "UNION"],
@@ -287,6 +302,14 @@ INPUT = [
     (["STEP kind=4 b=6"], ["table 1"], "Step 0, FILTER, a wrong record: comparison 6 does not exist; they are 0 to 5."),
     (["SCAN 0 with spare=1"], ["table 1"], "Step 0, SCAN, a wrong record: one of its bytes 5 to 7 is not zero."),
     (["FILTER 0 = 5 with c=2"], ["table 1"], "c is 2, and it is 0 for the constant or 1 for a column."),
+    (
+        ["SCAN 0"],
+        ["table 1", "table 1 sheets 254"],
+        "Table 1: its byte 1 is 255, for sheet numbers in column 254, and column 254 does not exist: the table has 1 column, column 0.",
+    ),
+    (["SCAN 0"], ["table 2 sheets 1", "5 6", "5 -1"], "Table 0, row 1, column 1 is a sheet number, and it is negative."),
+    (["SCAN 0"], ["table 1 sheets 0", "1:T(cut3)"], "Table 0, row 0, column 0 is a sheet number, and it is not clear, with the label T(cut3)."),
+    (["SCAN 0"], ["table 1 sheets 0", "-1:H"], "is a sheet number, and it is negative and not clear, with the label H."),
     (["SCAN 0"], ["table 1", "5:00000001"], "has the label 00000001: it has a group minimum, 1, and A (bit 29) is absent."),
     (["SCAN 0"], ["table 1", "5:20030000"], "has the label 20030000: A is present with a group minimum of 0, and this is 1 to 1,023."),
     (["SCAN 0"], ["table 1", "5:44000000"], "has the label 44000000: it allows cut with 0 digits, and these are 1 to 6."),

@@ -17,12 +17,13 @@ LONGEST_TEXT = 35097  # bytes of a released table's text
 Cell = namedtuple("Cell", "value label source")
 FromTable = namedtuple("FromTable", "table row column")
 FromApply = namedtuple("FromApply", "step first")  # the step's number, and the first operand's cell
-FromGroup = namedtuple("FromGroup", "step group members first")  # the group's number, its cells, its first row's origin
+FromGroup = namedtuple("FromGroup", "step group members sheets first")  # the group's number, cells and number of sheets, its first row's origin
 FromNoise = namedtuple("FromNoise", "step first")  # the step's number, and the cell whose value the draw was added to
 # a row's origin: the places it was joined from, each the row of a table or of a GROUP
 TableRow = namedtuple("TableRow", "table row")
 GroupRow = namedtuple("GroupRow", "step row")
-Row = namedtuple("Row", "cells origin")
+# a row's mark says of which sheet it is: a sheet number, or the TableRow of a row that is a sheet of its own
+Row = namedtuple("Row", "cells origin mark")
 Table = namedtuple("Table", "columns rows")
 Refused = namedtuple("Refused", "number step row column")
 # what the container does not settle: how many draws were lent, and where a cell that the draws decide is the first OVER, or None
@@ -69,7 +70,8 @@ def scan(step, k, given, stack):
     rows = []
     for r, cells in enumerate(table.rows):
         made = tuple(Cell(v, label, FromTable(step.a, r, c)) for c, (v, label) in enumerate(cells))
-        rows.append(Row(made, (TableRow(step.a, r),)))
+        here = TableRow(step.a, r)
+        rows.append(Row(made, (here,), here if table.sheets is None else made[table.sheets].value))
     return None, Table(table.columns, rows)
 
 
@@ -107,7 +109,7 @@ def join(step, k, given, stack):
     for one in left.rows:
         for other in by_key.get(one.cells[step.a].value, []):
             rest = other.cells[: step.b] + other.cells[step.b + 1 :]
-            rows.append(Row(one.cells + rest, one.origin + other.origin))
+            rows.append(Row(one.cells + rest, one.origin + other.origin, one.mark))
     return None, Table(left.columns + right.columns - 1, rows)
 
 
@@ -135,7 +137,7 @@ def filter_rows(step, k, given, stack):
 
 def keep(step, k, given, stack):
     columns = steps.columns_of(step.a)
-    rows = [Row(tuple(row.cells[c] for c in columns), row.origin) for row in stack[-1].rows]
+    rows = [row._replace(cells=tuple(row.cells[c] for c in columns)) for row in stack[-1].rows]
     return None, Table(len(columns), rows)
 
 
@@ -176,7 +178,7 @@ def apply(step, k, given, stack):
         first = row.cells[step.a]
         label = labels.after_t(first.label, step.b, cut_digits(step))
         new = Cell(transformed(step, first.value, row), label, FromApply(k, first))
-        rows.append(Row(row.cells + (new,), row.origin))
+        rows.append(row._replace(cells=row.cells + (new,)))
     return None, Table(table.columns + 1, rows)
 
 
@@ -192,10 +194,10 @@ def aggregate_value(operation, values):
     return settled((sum, min, max)[operation - 1](values))
 
 
-def aggregate_label(operation, members):
+def aggregate_label(operation, members, sheets):
     label = 0
     for cell in members:
-        label = labels.composed(label, labels.after_a(cell.label, operation, len(members)))
+        label = labels.composed(label, labels.after_a(cell.label, operation, sheets))
     return label
 
 
@@ -219,10 +221,10 @@ def group(step, k, given, stack):
         groups.setdefault(tuple(row.cells[c].value for c in keys), []).append(row)
     rows = []
     for number, rows_of in enumerate(groups.values()):
-        members = [row.cells[step.c] for row in rows_of]
-        value, label = aggregate_value(step.b, [cell.value for cell in members]), aggregate_label(step.b, members)
-        new = Cell(value, label, FromGroup(k, number, members, rows_of[0].origin))
-        rows.append(Row(tuple(rows_of[0].cells[c] for c in keys) + (new,), (GroupRow(k, number),)))
+        first, members, sheets = rows_of[0], [row.cells[step.c] for row in rows_of], len({row.mark for row in rows_of})
+        value, label = aggregate_value(step.b, [cell.value for cell in members]), aggregate_label(step.b, members, sheets)
+        new = Cell(value, label, FromGroup(k, number, members, sheets, first.origin))
+        rows.append(Row(tuple(first.cells[c] for c in keys) + (new,), (GroupRow(k, number),), first.mark))
     return None, Table(len(keys) + 1, rows)
 
 
@@ -244,7 +246,7 @@ def noise(step, k, given, stack):
     for row in table.rows:
         first = row.cells[step.a]
         new = Cell(OVER if first.value == OVER else DRAWN, labels.after_n(first.label), FromNoise(k, first))
-        rows.append(Row(row.cells + (new,), row.origin))
+        rows.append(row._replace(cells=row.cells + (new,)))
     return None, Table(table.columns + 1, rows)
 
 

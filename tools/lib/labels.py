@@ -115,9 +115,9 @@ def after_t(word, operation, cut_digits):
     return without_t(word) if highest(word) == "T" and allows_transform(word, operation, cut_digits) else word
 
 
-def after_a(word, operation, rows):
-    """The label that an aggregate over so many rows leaves."""
-    enough = allows_aggregate(word, operation) and minimum(word) <= rows
+def after_a(word, operation, sheets):
+    """The label that an aggregate over so many sheets leaves."""
+    enough = allows_aggregate(word, operation) and minimum(word) <= sheets
     return without_a(word) if highest(word) == "A" and enough else word
 
 
@@ -181,7 +181,7 @@ def minimum_bits(stage_name, inside):
     if not re.fullmatch("-?[0-9]+", word):
         numbers = [one for one in inside if re.fullmatch("[0-9]+", one)]
         problem = f"the group minimum {numbers[0]} does not stand last" if numbers else "there is no group minimum"
-        raise Fault(f"in {quoted(stage_name)} {problem}; A(sum,10) asks for a sum over at least 10 rows")
+        raise Fault(f"in {quoted(stage_name)} {problem}; A(sum,10) asks for a sum over at least 10 sheets")
     return number(word, 1, 1023, "the group minimum")
 
 
@@ -245,7 +245,7 @@ def applications(word):
 
 def aggregation(word):
     """The aggregates that A allows, as words of a GROUP."""
-    return f"{either(aggregates(word))} over at least {plural(minimum(word), 'row')}"
+    return f"{either(aggregates(word))} over at least {plural(minimum(word), 'sheet')}"
 
 
 def removal(word, stage):

@@ -14,11 +14,11 @@ COLUMNS, ROWS, STEPS, TABLES, DEPTH = 8, 256, 64, 8, 3
 DRAWS = (STEPS - 1) * ROWS  # no plan uses more: its first step is a SCAN
 CELL = 12
 
-# why the input is refused: document 01's number, the byte offset, and the reason in words
+# why the input is refused: the number of documents 01 and 02, the byte offset, and the reason in words
 Refusal = namedtuple("Refusal", "number place reason")
 Contents = namedtuple("Contents", "plan tables")
-# a table as the container has it: its rows are lists of pairs, value and label
-Table = namedtuple("Table", "columns rows")
+# a table as the container has it: the column of sheet numbers, or None; its rows are lists of pairs, value and label
+Table = namedtuple("Table", "columns sheets rows")
 
 
 def part_count(data):
@@ -93,11 +93,9 @@ def header(part):
 def header_fault(part):
     if len(part) < 4:
         return f"it has {plural(len(part), 'byte')}, and its header alone needs 4"
-    columns, spare, rows = header(part)
+    columns, _, rows = header(part)
     if not 1 <= columns <= COLUMNS:
         return f"it has {plural(columns, 'column')}, and a table has 1 to {COLUMNS}"
-    if spare != 0:
-        return f"its byte 1 is {spare}, and it is zero"
     if rows > ROWS:
         return f"it has {rows:,} rows, and a table has at most {ROWS}"
     if len(part) != 4 + CELL * rows * columns:
@@ -122,8 +120,27 @@ def cell_fault(table, columns, at, cell, value, label):
     return None
 
 
+def sheet_column(part):
+    """The column of sheet numbers, or None where each row counts as a sheet of its own."""
+    return part[1] - 1 if part[1] else None
+
+
+def sheets_fault(table, part):
+    """20: why a table's sheet numbers are wrong, or None."""
+    columns, column = part[0], sheet_column(part)
+    if column is None:
+        return None
+    if column >= columns:
+        return f"table {table}: its byte 1 is {part[1]}, for sheet numbers in column {column}, and {no_column(column, columns, 'the table')}"
+    for row, (value, label) in enumerate(cells(part)[column::columns]):
+        wrong = ["negative"] * (value < 0) + [f"not clear, with the label {labels.label_text(label)}"] * (label != 0)
+        if wrong:
+            return f"table {table}, row {row}, column {column} is a sheet number, and it is {' and '.join(wrong)}"
+    return None
+
+
 def check_tables(parts, starts):
-    """For each table 13, then for each cell 14, 15."""
+    """For each table 13, then for each cell 14, 15, then 20."""
     for part, at, table in zip(parts[1:], starts[1:], range(len(parts))):
         broken = header_fault(part)
         if broken:
@@ -132,6 +149,9 @@ def check_tables(parts, starts):
             refusal = cell_fault(table, part[0], at, cell, value, label)
             if refusal:
                 return refusal
+        broken = sheets_fault(table, part)
+        if broken:
+            return Refusal(20, at, broken)
     return None
 
 
@@ -278,7 +298,7 @@ def check(data):
 def table_of(part):
     columns, _, rows = header(part)
     every = cells(part)
-    return Table(columns, [every[columns * row : columns * (row + 1)] for row in range(rows)])
+    return Table(columns, sheet_column(part), [every[columns * row : columns * (row + 1)] for row in range(rows)])
 
 
 def contents(data):

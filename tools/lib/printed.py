@@ -9,7 +9,7 @@ from words import plural
 
 LONGEST_OUTPUT = 65536  # bytes; 64 lines S and 256 lines R are shorter
 
-INPUT = range(11, 20)  # refusals with a byte offset
+INPUT = range(11, 21)  # refusals with a byte offset
 NO_DRAW = 37  # no draw is left for a row
 NO_ROOM = 51  # the text of a release has no room
 STATE = (1, *range(31, 38), NO_ROOM)  # refusals with a step, a row and a column

@@ -17,6 +17,7 @@ INPUT = {
     17: "a step's record is wrong",
     18: "a step finds too few tables or one too many, or the plan does not leave one table",
     19: "a step names a table or column that does not exist, unequal widths or too many columns",
+    20: "a table's sheet numbers are wrong",
 }
 STATE = {
     1: "the program lent the monitor too little memory, and nothing was read",
@@ -31,15 +32,15 @@ STATE = {
 }
 CAUSES = {
     31: "Causes: the raw column was used, and not the copy that an APPLY appends; a cut took too few digits off; the operation is not"
-    " among those that the label allows; a count or another aggregate kept its label, because its group has too few rows or the"
+    " among those that the label allows; a count or another aggregate kept its label, because its group has too few sheets or the"
     " label does not allow it; an N that no NOISE has removed; or H, which no step removes.",
     32: "Causes: H, which no step removes; or, in a GROUP, a T that no APPLY has removed: the raw column was aggregated and not its"
     " copy, a cut took too few digits off, or the operation is not among those that the label allows; or, in a NOISE, such a T, or an A"
     " that no GROUP has removed.",
     33: "Causes: the operands stand the wrong way round; a labelled column is added to itself; or an earlier step did not remove the"
-    " label, because it cut too few digits off, is not allowed by the label, or had too few rows in a group.",
+    " label, because it cut too few digits off, is not allowed by the label, or had too few sheets in a group.",
     34: "Causes: in a JOIN, keys that repeat on both sides; in a UNION, tables that have more than 256 rows together.",
-    35: "Causes: a group with fewer rows than a label asks for; an aggregate or operation that a label does not allow; a cut that took"
+    35: "Causes: a group with fewer sheets than a label asks for; an aggregate or operation that a label does not allow; a cut that took"
     " too few digits off; an N that no NOISE has removed; a raw column left in beside its copy; or H, which no step removes.",
     36: "Causes: a sum, a difference, a band or a value with noise left the range of values, or one of its operands was OVER already.",
     37: "Cause: a NOISE uses a draw for each row that it reads, and the program lent fewer. Run it again with new draws, and never with old ones.",
@@ -57,6 +58,7 @@ ACTIONS = {
     17: "Ask the analyst to write the step again.",
     18: "Ask the analyst to mend the plan.",
     19: "Ask the analyst to mend the plan.",
+    20: "Ask whoever wrote the table to correct its sheet numbers. Never have it sent without them: each row would then count as a sheet.",
     31: "Ask the analyst to change the plan. Never ask for the label to be taken off.",
     32: "Ask the analyst to change the plan. Never ask for the label to be taken off.",
     33: "Ask the analyst to change the plan. Never ask for the label to be taken off.",
@@ -108,15 +110,15 @@ def apply_reason(step, label):
     return f"{not_among(name, labels.transforms(label))} ({text})"
 
 
-def group_reason(step, label, rows):
-    """Why a GROUP over so many rows left a stage on this label."""
+def group_reason(step, label, sheets):
+    """Why a GROUP over so many sheets left a stage on this label."""
     name, top = labels.AGGREGATES[step.b], labels.highest(label)
     if top == "N":
         return labels.asks(label, "N")
     text, reasons = labels.stage_text(label, "A"), []
     if not labels.allows_aggregate(label, step.b):
         reasons.append(f"{not_among(name, labels.aggregates(label))} ({text})")
-    if labels.minimum(label) > rows:
+    if labels.minimum(label) > sheets:
         reasons.append(f"{text} asks for {labels.minimum(label)}")
     return ", and ".join(reasons) or f"A is gone; {labels.asks(labels.without_a(label), 'N')}"
 
@@ -132,10 +134,11 @@ def left_on(cell, plan):
         made = f"Step {source.step}, {steps.described(step)}, made it of {source_place(source.first.source)}"
         label = source.first.label
         return f"{made}: {apply_reason(step, label) if isinstance(source, FromApply) else labels.asks(label, 'N')}."
-    rows = len(source.members)
-    kept = next(member for member in source.members if labels.after_a(member.label, step.b, rows))
-    group = f"Step {source.step}, group {source.group}, first row: {row_place(source.first)}, has {plural(rows, 'row')}"
-    return f"{group}; {group_reason(step, kept.label, rows)}."
+    rows, sheets = len(source.members), source.sheets
+    kept = next(member for member in source.members if labels.after_a(member.label, step.b, sheets))
+    size = plural(sheets, "sheet") + f" in {rows} rows" * (rows != sheets)
+    group = f"Step {source.step}, group {source.group}, first row: {row_place(source.first)}, has {size}"
+    return f"{group}; {group_reason(step, kept.label, sheets)}."
 
 
 def advice(label, kind):

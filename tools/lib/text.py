@@ -120,35 +120,44 @@ def cell_text(value, label):
     return f"{value}:{labels.label_text(label)}" if label else str(value)
 
 
+def table_header(words):
+    """The columns and byte 1 of a table that is begun by these words: 'table 2', or 'table 2 sheets 0'."""
+    if len(words) != 2 and (len(words) != 4 or words[2] != "sheets"):
+        sheets = "with sheet numbers in its column 0 'table 2 sheets 0'"
+        raise Fault(f"a table is begun by 'table' and its number of columns, as in 'table 2', and {sheets}")
+    columns = number(words[1], 0, 255, "the number of columns")
+    return columns, 0 if len(words) == 2 else number(words[3], 0, 254, "the column of sheet numbers") + 1
+
+
 # One container
 
 
 class Part:
     """A part as the text gives it: its bytes, of a table those behind its header, and the lines that they come from."""
 
-    def __init__(self, section, line, columns=None):
-        self.section, self.line, self.columns = section, line, columns
-        self.body, self.rows, self.marks = bytearray(), 0, []
+    def __init__(self, section, line, columns=None, byte_1=0):
+        self.section, self.line, self.columns, self.byte_1 = section, line, columns, byte_1
+        self.body, self.rows, self.places = bytearray(), 0, []
 
     def add(self, data, line, budget):
         budget.take(len(data))
-        if not self.marks or self.marks[-1][1] != line:
-            self.marks.append((len(self.body), line))
+        if not self.places or self.places[-1][1] != line:
+            self.places.append((len(self.body), line))
         self.body += data
         if len(self.body) > LONGEST_MADE:
             raise Fault(f"this part has more than {LONGEST_MADE:,} bytes")
 
     def header(self):
-        return b"" if self.columns is None else struct.pack("<BBH", self.columns, 0, self.rows)
+        return b"" if self.columns is None else struct.pack("<BBH", self.columns, self.byte_1, self.rows)
 
     def made(self):
         return self.header() + self.body
 
     def line_of(self, place):
         """The line that the byte at a place of the part comes from."""
-        if place < len(self.header()) or not self.marks:
+        if place < len(self.header()) or not self.places:
             return self.line
-        return self.marks[bisect_right(self.marks, (place - len(self.header()), 2**62)) - 1][1]
+        return self.places[bisect_right(self.places, (place - len(self.header()), 2**62)) - 1][1]
 
 
 class Source:
@@ -165,9 +174,7 @@ class Source:
         """Begins the section that a line names."""
         section = words[0]
         if section == "table":
-            if len(words) != 2:
-                raise Fault("a table is begun by 'table' and its number of columns, as in 'table 2'")
-            self.add_part(Part("table", line, number(words[1], 0, 255, "the number of columns")))
+            self.add_part(Part("table", line, *table_header(words)))
         elif len(words) != 1:
             raise Fault(f"the section '{section}' is begun by a line with this word alone")
         elif section == "plan" and self.parts:
@@ -238,7 +245,7 @@ class Source:
     def marked_wrong(self):
         """Whether the text says that the container is wrong: by what it is made of, or by its answer."""
         made_wrong = self.raw is not None or self.damage or any(part.section == "part" for part in self.parts)
-        return bool(made_wrong) or bool(self.answer and re.fullmatch("X 1[1-9] [0-9]+", self.answer[0]))
+        return bool(made_wrong) or bool(self.answer and re.fullmatch("X (1[1-9]|20) [0-9]+", self.answer[0]))
 
     def made(self):
         """The container's bytes."""
@@ -299,7 +306,7 @@ class Source:
         if refusal.number == 16:
             return self.parts[0].line
         starts = self.starts()
-        part = 0 if refusal.number > 16 else bisect_right(starts, refusal.place) - 1
+        part = 0 if refusal.number in (17, 18, 19) else bisect_right(starts, refusal.place) - 1
         return self.parts[part].line_of(refusal.place - starts[part])
 
     # Damage
@@ -339,11 +346,8 @@ def damage_pair(where):
     return change
 
 
-def damage_byte(where):
-    def change(source, whole, table, value):
-        return put(whole, source.header_at(table) + where, bytes([steps.wide(value, 8, "the byte")]))
-
-    return change
+def damage_columns(source, whole, table, value):
+    return put(whole, source.header_at(table), bytes([steps.wide(value, 8, "the byte")]))
 
 
 def damage_rows(source, whole, table, value):
@@ -359,8 +363,7 @@ DIRECTIVES = {
     "count": (1, lambda source, whole, value: put(whole, 0, struct.pack("<H", steps.wide(value, 16, "the number")))),
     "offset": (2, damage_pair(0)),
     "length": (2, damage_pair(4)),
-    "columns": (2, damage_byte(0)),
-    "spare": (2, damage_byte(1)),
+    "columns": (2, damage_columns),
     "rows": (2, damage_rows),
     "bytes": (None, damage_bytes),
     "truncate": (1, lambda source, whole, length: whole[: number(length, 0, len(whole), "the length")]),
@@ -490,11 +493,13 @@ def shown_plan(part):
 def shown_table(part):
     if len(part) < 4:
         return ["part", *lines_of_bytes(part, "bytes ")]
-    columns, spare, rows = layout.header(part)
-    if columns == 0 or spare != 0 or len(part) != 4 + layout.CELL * rows * columns:
+    columns, _, rows = layout.header(part)
+    if columns == 0 or len(part) != 4 + layout.CELL * rows * columns:
         return ["part", *lines_of_bytes(part, "bytes ")]
+    sheets = layout.sheet_column(part)
     every = [cell_text(*cell) for cell in layout.cells(part)]
-    return [f"table {columns}"] + ["  " + " ".join(every[k : k + columns]) for k in range(0, len(every), columns)]
+    rows_shown = ["  " + " ".join(every[k : k + columns]) for k in range(0, len(every), columns)]
+    return [f"table {columns}" + ("" if sheets is None else f" sheets {sheets}"), *rows_shown]
 
 
 def shown(path):

@@ -10,8 +10,9 @@ use lib.ListN.{length, getD, drop, length-drop}
 use borrow.Author.Tests.{leb-true, eqb-true, not-false}
 use Rattle.accepted.specs.Accepted.{StepsCounted, StepsFound, Placed, PlanPlaced}
 use Rattle.container.specs.Check.{accepted, tableWidths, checkInput}
-use Rattle.container.specs.Contents.{stepsFrom, planOf, tablesFrom, tablesOf}
+use Rattle.container.specs.Contents.{stepsFrom, planOf, tablesFrom, inputTables, tablesOf}
 use Rattle.layout.specs.Layout.{partCount, offsetOf, partOf}
+use Rattle.plan.specs.Sheets.{withMarks, allWithMarks}
 use Rattle.plan.specs.Steps.{takes}
 use Rattle.plan.specs.Widths.{enoughTables, placed, madeColumns}
 use Rattle.plan.specs.declared.Step.{Step}
@@ -21,7 +22,7 @@ use Rattle.plan_part.specs.PlanPart.{stepCount, lengthFits}
 use Rattle.records.specs.Record.{fieldsAt, stepOf}
 use Rattle.records.specs.declared.Found.{Found}
 use Rattle.records.specs.declared.Found.the-variants as found
-use Rattle.table_part.specs.TablePart.{tableOf}
+use Rattle.table_part.specs.TablePart.{columnsOf, tableOf}
 use Rattle.accepted.proofs.AcceptedTables.{checks}
 use Rattle.input.proofs.Laws.{never, not-so, passed}
 use Rattle.kinds.proofs.Laws.{enough-room}
@@ -72,10 +73,10 @@ module _ (part : List ℕ) (at : ℕ) (tables : List ℕ) where
           (later (madeColumns next tables stack ∷ drop (takes next) stack) (p .1))
       go later found.Nothing s c = absurd (never 17 _ c)
 
-widths-of : (bytes : List ℕ) (part more : ℕ) → tableWidths bytes part more ≡ map (λ table. table .columns) (tablesFrom bytes part more)
-unfolding tableOf
-widths-of bytes part zero = refl
-widths-of bytes part (suc more) = ap (λ (l : List ℕ). tableOf (partOf bytes part) .columns ∷ l) (widths-of bytes (suc part) more)
+widths-of : (bytes : List ℕ) (table part more : ℕ) → tableWidths bytes part more ≡ map (λ table. table .columns) (allWithMarks table (tablesFrom bytes part more))
+unfolding tableOf withMarks
+widths-of bytes table part zero = refl
+widths-of bytes table part (suc more) = ap (λ (rest : List ℕ). columnsOf (partOf bytes part) ∷ rest) (widths-of bytes (suc table) (suc part) more)
 
 module _ (bytes : List ℕ) (e : checkInput bytes ≡ accepted) where
   plan : List ℕ
@@ -106,5 +107,5 @@ unfolding planOf plan
 steps-found bytes e k h = step-there (partOf bytes 0) k h ∙ (rw (zero-add k) at (all bytes e .steps k h))
 
 pub plan-placed : PlanPlaced
-unfolding planOf tablesOf plan widths
-plan-placed bytes e = rw (← widths-of bytes 1 (partCount bytes - 1)) (all bytes e .places (omega arith))
+unfolding planOf tablesOf inputTables plan widths
+plan-placed bytes e = rw (← widths-of bytes 0 1 (partCount bytes - 1)) (all bytes e .places (omega arith))

@@ -1,17 +1,18 @@
 -- What an accepted container holds. Each of these is proved.
-use Prim.Native.Nat.{ℕ, _+_, _-_, _*_, _≤_, _<_}
+use Prim.Native.Nat.{ℕ, suc, _+_, _-_, _*_, _≤_, _<_}
 use mathlib.Core.Path.{_≡_}
-use mathlib.Core.Bool.{Bool, true, not}
+use mathlib.Core.Bool.{Bool, true, false, not}
 use mathlib.Core.List.{List, [], _∷_, map}
 use lib.Dec.{eqb}
 use lib.ListN.{length, getD, drop}
 use Rattle.container.specs.Check.{accepted, checkInput}
-use Rattle.container.specs.Contents.{planOf, tablesOf}
+use Rattle.container.specs.Contents.{planOf, inputTables, tablesOf}
 use Rattle.operations.specs.promises.Operations.{operationFits}
 use Rattle.label_words.specs.WellFormed.{wellFormed}
 use Rattle.layout.specs.Layout.{partCount, partOf}
 use Rattle.plan.specs.Sense.{Small}
-use Rattle.plan.specs.Table.{Each, Shaped, Table, noTable}
+use Rattle.plan.specs.Sheets.{InputTable, withMarks}
+use Rattle.plan.specs.Table.{Each, Shaped, Table, noTable, blank, clear}
 use Rattle.plan.specs.Steps.{takes}
 use Rattle.plan.specs.Widths.{enoughTables, placed, madeColumns}
 use Rattle.plan.specs.declared.Step.{Step}
@@ -19,7 +20,8 @@ use Rattle.plan.specs.declared.Step.the-variants.{Scan, Union, Join, Filter, Ke
 use Rattle.plan_part.specs.PlanPart.{stepCount}
 use Rattle.plan_part.specs.promises.Steps.{stepAt}
 use Rattle.records.specs.declared.Found.the-variants as found
-use Rattle.table_part.specs.TablePart.{columnsOf, rowCount, cellCount, headerFits, tableOf}
+use Rattle.table_part.specs.TablePart.{columnsOf, sheetsOf, rowCount, cellCount, headerFits, tableOf}
+use Rattle.value.specs.Pattern.{negative}
 use Rattle.value.specs.Range.{inRange}
 
 -- 1 to 8 tables
@@ -27,16 +29,17 @@ abbrev pub TablesCounted : Type 0
 TablesCounted = (bytes : List ℕ) → checkInput bytes ≡ accepted
     → (2 ≤ partCount bytes) × (partCount bytes ≤ 9) × (length (tablesOf bytes) ≡ partCount bytes - 1)
 
--- table t is part t + 1, and its header fits
+-- table t is part t + 1, its header fits, and byte 1 names no column past the last
 abbrev pub TablesFound : Type 0
 TablesFound = (bytes : List ℕ) → checkInput bytes ≡ accepted → (t : ℕ) → t < partCount bytes - 1
-    → (headerFits (partOf bytes (t + 1)) ≡ true) × (getD (tablesOf bytes) t noTable ≡ tableOf (partOf bytes (t + 1)))
+    → (headerFits (partOf bytes (t + 1)) ≡ true) × (sheetsOf (partOf bytes (t + 1)) ≤ columnsOf (partOf bytes (t + 1)))
+    × (getD (tablesOf bytes) t noTable ≡ withMarks t (tableOf (partOf bytes (t + 1))))
 
 -- a header that fits: 1 to 8 columns, at most 256 rows, and as many bytes as the cells need
 abbrev pub HeaderMeans : Type 0
 HeaderMeans = (part : List ℕ) → headerFits part ≡ true
     → (1 ≤ columnsOf part) × (columnsOf part ≤ 8) × (rowCount part ≤ 256) × (length part ≡ 4 + 12 * cellCount part)
-    × (length (tableOf part .rows) ≡ rowCount part)
+    × ((table : ℕ) → length (withMarks table (tableOf part) .rows) ≡ rowCount part)
 
 -- every cell's value is in range and its label well-formed
 abbrev pub Sound : Table → Type 0
@@ -46,6 +49,17 @@ abbrev pub TablesSound : Type 0
 TablesSound = (bytes : List ℕ) → checkInput bytes ≡ accepted
     → Each Shaped (tablesOf bytes) × Each Small (tablesOf bytes)
     × Each (λ table. (1 ≤ table .columns) × (table .columns ≤ 8)) (tablesOf bytes) × Each Sound (tablesOf bytes)
+
+-- byte 1 is zero, or one more than a column whose cells are clear and not negative
+pub record SheetsSound (input : InputTable) : Type 0 where
+  pub within : input .sheets ≤ input .columns
+  pub whole : length (input .cells) ≡ input .rows * input .columns
+  pub clear-cells : (column : ℕ) → input .sheets ≡ suc column → (row : ℕ) → row < input .rows
+      → (clear (getD (input .cells) (row * input .columns + column) blank .label) ≡ true)
+      × (negative (getD (input .cells) (row * input .columns + column) blank .value) ≡ false)
+
+abbrev pub TablesSheets : Type 0
+TablesSheets = (bytes : List ℕ) → checkInput bytes ≡ accepted → Each SheetsSound (inputTables bytes)
 
 -- 1 to 64 steps, and each record has its step
 abbrev pub StepsCounted : Type 0

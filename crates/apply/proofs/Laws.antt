@@ -5,7 +5,7 @@ use mathlib.Core.Bool.{true}
 use mathlib.Core.List.{List}
 use Rattle.apply.specs.promises.Fits.{applyFits}
 use Rattle.cells.specs.promises.Labelled.{Formed, LabelledRow, Labelled}
-use Rattle.cells.specs.promises.Work.{Work}
+use Rattle.cells.specs.promises.Work.{Memory}
 use Rattle.operations.specs.promises.Operations.{operationFits}
 use Rattle.memory.specs.declared.Stack.{Stack}
 use Rattle.memory.specs.promises.Stack.{stackIn}
@@ -22,9 +22,9 @@ use Rattle.memory.proofs.TopLabels.{top-formed}
 use Rattle.plan.proofs.SenseShape.{each-append, each-map}
 
 -- an operation that exists, on live tables whose labels are well-formed, asks no more than every step
-pub apply-fits : (column : ℕ) (transform : Transform) (supply : Supply) (w : Work) (stack : Stack) → fitsIn (Apply column transform) supply w stack ≡ true → operationFits transform ≡ true
-    → Each Labelled (stackIn w stack) → applyFits column transform supply w stack ≡ true
-apply-fits column transform supply w stack t o e = rw (t, o, top-formed column w stack e)
+pub apply-fits : (column : ℕ) (transform : Transform) (supply : Supply) (m : Memory) (stack : Stack) → fitsIn (Apply column transform) supply m stack ≡ true → operationFits transform ≡ true
+    → Each Labelled (stackIn m stack) → applyFits column transform supply m stack ≡ true
+apply-fits column transform supply m stack t o e = rw (t, o, top-formed column m stack e)
 
 -- ---- the labels that APPLY makes
 

@@ -13,13 +13,17 @@ use Rattle.cells.specs.promises.Written.{Put}
 use Rattle.memory.specs.declared.LiveTable.{LiveTable}
 use Rattle.memory.specs.promises.Stack.{rowsIn}
 use Rattle.plan.specs.Apply.{transformValue, newCell, appliedRow}
+use Rattle.plan.specs.Operands.{operandValue}
 use Rattle.plan.specs.Numbers.{transformCode, digitsTaken}
 use Rattle.plan.specs.Table.{Cell, Row, cellAt}
 use Rattle.plan.specs.Widths.{transformColumnExists}
+use Rattle.plan.specs.declared.Operand.{Operand}
+use Rattle.plan.specs.declared.Operand.the-variants.{Constant, Column}
 use Rattle.plan.specs.declared.Transform.{Transform}
 use Rattle.plan.specs.declared.Transform.the-variants.{Add, Sub, Cut, Band}
 use Rattle.value.specs.Arithmetic.{plus, minus, cut, band}
 use Rattle.cells.proofs.CellLaws.{cell}
+use Rattle.cells.proofs.Rows.{bare}
 use Rattle.extension.proofs.Extending.{madeOf}
 use Rattle.extension.proofs.RowExtended as row
 use Rattle.extension.proofs.Rows.{extendedFrom}
@@ -29,7 +33,22 @@ use Rattle.operand.proofs.Laws.{operand-of}
 abbrev pub newOf : ℕ → Transform → ℕ → Row → Cell
 newOf column transform i row = newCell transform (cellAt column row) row
 
-applied-is : (column : ℕ) (transform : Transform) (i : ℕ) (rows : List Row) → map (appliedRow column transform) rows ≡ extendedFrom (newOf column transform) i rows
+-- which does not depend on the row's mark
+operand-bare : (operand : Operand) (row : Row) → operandValue operand row ≡ operandValue operand (bare row)
+operand-bare (Constant value) row = refl
+operand-bare (Column column) row = refl
+
+new-value : (transform : Transform) (value : ℤ) (row : Row) → transformValue transform value row ≡ transformValue transform value (bare row)
+new-value (Add operand) value row = ap (plus value) (operand-bare operand row)
+new-value (Sub operand) value row = ap (minus value) (operand-bare operand row)
+new-value (Cut digits) value row = refl
+new-value (Band width) value row = refl
+
+pub new-bare : (column : ℕ) (transform : Transform) (i : ℕ) (row : Row) → newOf column transform i row ≡ newOf column transform i (bare row)
+new-bare column transform i row =
+    ap (λ (value : ℤ). cell value (afterT (cellAt column row .label) (transformCode transform) (digitsTaken transform))) (new-value transform (cellAt column row .value) row)
+
+pub applied-is : (column : ℕ) (transform : Transform) (i : ℕ) (rows : List Row) → map (appliedRow column transform) rows ≡ extendedFrom (newOf column transform) i rows
 applied-is column transform i [] = refl
 applied-is column transform i (row ∷ rest) = ap (λ (l : List Row). appliedRow column transform row ∷ l) (applied-is column transform (suc i) rest)
 

@@ -1,6 +1,6 @@
 // "APPLY .. Appends a column; the first column stays. The new label is the first operand's, discharged at level T."
 ghost use Rattle.cells.specs.promises.Work.{work};
-ghost use Rattle.memory.specs.promises.Steps.{DoneWhere};
+ghost use Rattle.memory.specs.promises.Steps.{DoneWhere, Unmoved};
 ghost use Rattle.plan.specs.Supply.{Supply};
 ghost use Rattle.plan.specs.declared.Step.the-variants.{Apply};
 ghost use Rattle.apply.specs.promises.Fits.{applyFits};
@@ -21,9 +21,9 @@ pub fn apply(
     column: usize,
     transform: Transform,
 ) -> Stepped
-    ensures { λ r. ⌜ ((supply : Supply) → DoneWhere
-        (applyFits column transform supply (work (now (values .entry)) (now (labels .entry))) stack) (Apply column transform)
-        supply (work (now (values .entry)) (now (labels .entry))) stack r (work (now (values .exit)) (now (labels .exit)))) ⌝ }
+    ensures { λ r. ⌜ ((supply : Supply)
+        → Unmoved (λ before after. DoneWhere (applyFits column transform supply before stack) (Apply column transform) supply before stack r after)
+        (work (now (values .entry)) (now (labels .entry))) (work (now (values .exit)) (now (labels .exit)))) ⌝ }
 {
     let step = Step::Apply { column, transform };
     let Width::Columns(columns) = memory::fit(values.len(), labels.len(), stack, step) else {

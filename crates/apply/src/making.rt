@@ -30,7 +30,7 @@ pub fn make_table(
     requires { ⌜ Inside top (length (now values)) (length (now labels)) × (top .columns + 1 ≤ 8) ⌝ }
     requires { ⌜ (column < top .columns) × (transformColumnExists transform (top .columns) ≡ true) × (operationFits transform ≡ true) ×
         (columnFormed column (labelsIn (now labels) top) ≡ true) ⌝ }
-    ensures { λ r. ⌜ RowsAt (top .at) (top .columns + 1) (top .rows)
+    ensures { λ r. ⌜ RowsAt (top .at)
         (spec.rowsMade top column transform (work (now (values .entry)) (now (labels .entry))))
         (work (now (values .entry)) (now (labels .entry))) (work (now (values .exit)) (now (labels .exit))) ⌝ }
 {

@@ -11,8 +11,8 @@ use lib.ListN.{length, getD, take, drop, set, length-set, length-take, length-dr
 use lib.Seq.{drop-set-lt}
 use borrow.Author.Tests.{leb-true, le-leb}
 use Rattle.cells.specs.promises.Cells.{cellsOf, moved, within, canMove, movesWithin}
-use Rattle.cells.specs.promises.Work.{Work, work, cellsIn, room, Kept}
-use Rattle.cells.specs.promises.Written.{CellsWritten, Put}
+use Rattle.cells.specs.promises.Work.{Work, Memory, work, cellsIn, room, markRoom, Kept, MarksKept, AllKept}
+use Rattle.cells.specs.promises.Written.{Written, CellsWritten, Put}
 use Rattle.plan.specs.Table.{Cell, blank}
 use Rattle.cells.proofs.Written.{Moves, down, up, within-from, within-to, part-moved, as-long, past-any}
 
@@ -104,6 +104,19 @@ kept-then a b = record {
   values-past = b .values-past ∙ a .values-past;
   labels-past = b .labels-past ∙ a .labels-past;
 }
+
+pub marks-none : (marks : List ℕ) → MarksKept marks marks
+marks-none marks = record { as-many = refl; past = refl }
+
+pub marks-then : {first then last : List ℕ} → MarksKept first then → MarksKept then last → MarksKept first last
+marks-then a b = record { as-many = b .as-many ∙ a .as-many; past = b .past ∙ a .past }
+
+-- marks written among those that a run uses
+pub marks-written : {before after done : List ℕ} {at : ℕ} → Written before at done after → at + length done ≤ markRoom → MarksKept before after
+marks-written w h = record { as-many = as-long w; past = past-any w markRoom h }
+
+pub all-none : (m : Memory) → AllKept m m
+all-none m = record { work = kept-none (m .work); marks = marks-none (m .marks) }
 
 -- a cell stored among the elements that a run uses
 pub kept-set : {before w : Work} (i : ℕ) (v : ℤ) (l : ℕ) → i < room → Kept before w → Kept before (work (set (w .values) i v) (set (w .labels) i l))

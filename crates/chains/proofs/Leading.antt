@@ -6,22 +6,22 @@ use native.Mathlib.Numerals.{add-one}
 use native.Mathlib.Omega.{arith}
 use lib.ListN.{length, getD, take, drop, set}
 use lib.Seq.{drop-drop, take-suc-set}
-use Rattle.cells.specs.promises.Cells.{rowFrom, tableRows}
+use Rattle.cells.specs.promises.Cells.{bareRow, bareRows, rowFrom, tableRows}
 use Rattle.chains.specs.promises.Chains.{firstSame, firstOf, leadersAfter}
-use Rattle.plan.specs.Table.{Cell, Row, rowsOf}
+use Rattle.plan.specs.Table.{Cell, Row}
 use Rattle.cells.proofs.Rows.{row-at, rows-length, rows-more}
 use Rattle.chains.proofs.Leaders.{leader-upto}
 
 -- the rows from one on, whose first cell stands at a place
 pub rows-next : (columns rows row place : ℕ) (memory : List Cell) → row < rows
-    → rowsOf columns (rows - row) (drop place memory) ≡ rowFrom columns memory place ∷ rowsOf columns (rows - (row + 1)) (drop (place + columns) memory)
+    → bareRows columns (rows - row) (drop place memory) ≡ rowFrom columns memory place ∷ bareRows columns (rows - (row + 1)) (drop (place + columns) memory)
 rows-next columns rows row place memory h =
     let e : rows - row ≡ suc (rows - (row + 1)) = omega arith in
     rw (e, drop-drop columns place memory)
 
 -- one row of a table
 pub row-of : (columns rows at : ℕ) (memory : List Cell) (row : ℕ) (d : Row) → row < rows → getD (tableRows columns rows memory at) row d ≡ rowFrom columns memory (at + row * columns)
-row-of columns rows at memory row d h = row-at columns rows row (drop at memory) d h ∙ ap (λ (l : List Cell). record { cells = take columns l }) (drop-drop (row * columns) at memory)
+row-of columns rows at memory row d h = row-at columns rows row (drop at memory) d h ∙ ap (λ (l : List Cell). bareRow (take columns l)) (drop-drop (row * columns) at memory)
 
 -- one row more is led
 module _ (keys columns : ℕ) where
@@ -38,8 +38,8 @@ module _ (keys columns : ℕ) where
       → take (row + 1) (set found row leader) ≡ leadersAfter keys columns [] (tableRows columns (row + 1) memory at)
   leaders-more at row leader memory found k e f =
       let R = tableRows columns row memory at in
-      let more : rowsOf columns (suc row) (drop at memory) ≡ R ++ (rowFrom columns memory (at + row * columns) ∷ [])
-      = rows-more columns row (drop at memory) ∙ ap (λ (l : List Cell). R ++ (record { cells = take columns l } ∷ [])) (drop-drop (row * columns) at memory) in
+      let more : bareRows columns (suc row) (drop at memory) ≡ R ++ (rowFrom columns memory (at + row * columns) ∷ [])
+      = rows-more columns row (drop at memory) ∙ ap (λ (l : List Cell). R ++ (bareRow (take columns l) ∷ [])) (drop-drop (row * columns) at memory) in
       rw (add-one row) (take-suc-set found row leader k ∙ ap₂ _++_ e (ap (λ (n : ℕ). n ∷ []) f)
       ∙ sym (leaders-last [] R (rowFrom columns memory (at + row * columns))) ∙ ap (leadersAfter keys columns []) (sym more))
 

@@ -10,10 +10,10 @@ use lib.Dec.{eqb}
 use lib.ListN.{length, getD, take, drop}
 use lib.Seq.{drop-drop, split-at, length-take-le}
 use borrow.Author.Tests.{eqb-true, eqb-false}
-use Rattle.cells.specs.promises.Cells.{rowFrom}
+use Rattle.cells.specs.promises.Cells.{bareRow, bareRows, rowFrom}
 use Rattle.chains.specs.promises.Chains.{firstSame, leadersAfter}
 use Rattle.plan.specs.Group.{sameKeys, anySame}
-use Rattle.plan.specs.Table.{Cell, Row, rowsOf}
+use Rattle.plan.specs.Table.{Cell, Row}
 use Rattle.chains.proofs.Leaders.{first-none, met-before, leads, before, new-leader, old-leader}
 use Rattle.cells.proofs.Rows.{row-at, rows-length}
 use Rattle.plan.proofs.SenseGroups.{same-keys-sym}
@@ -33,9 +33,9 @@ module _ (keys columns : ℕ) (row : Row) where
   none-same rows e = sym (ap (firstSame keys columns row) (append-nil rows)) ∙ first-none keys columns row rows [] e ∙ add-zero (length rows)
 
 -- the rows of a table before a row, whose leaders are known
-module _ (keys columns rows at : ℕ) (row : Row) (memory : List Cell) (leaders : List ℕ) (known : take rows leaders ≡ leadersAfter keys columns [] (rowsOf columns rows (drop at memory))) where
+module _ (keys columns rows at : ℕ) (row : Row) (memory : List Cell) (leaders : List ℕ) (known : take rows leaders ≡ leadersAfter keys columns [] (bareRows columns rows (drop at memory))) where
   abbrev table : List Row
-  table = rowsOf columns rows (drop at memory)
+  table = bareRows columns rows (drop at memory)
 
   abbrev rowOther : ℕ → Row
   rowOther other = rowFrom columns memory (at + other * columns)
@@ -48,7 +48,7 @@ module _ (keys columns rows at : ℕ) (row : Row) (memory : List Cell) (leaders 
     inside = rw (rows-length columns rows (drop at memory)) h
 
     is : getD table other (rowOther other) ≡ rowOther other
-    is = row-at columns rows other (drop at memory) (rowOther other) h ∙ ap (λ (l : List Cell). record { cells = take columns l }) (drop-drop (other * columns) at memory)
+    is = row-at columns rows other (drop at memory) (rowOther other) h ∙ ap (λ (l : List Cell). bareRow (take columns l)) (drop-drop (other * columns) at memory)
 
     -- a leader with the row's keys is the first row with them
     pub leader-first : getD leaders other 0 ≡ other → sameKeys keys columns (rowOther other) row ≡ true → firstSame keys columns row table ≡ other

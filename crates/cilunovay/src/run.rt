@@ -13,20 +13,23 @@ pub extern "C" fn cilunovay_run(
     draws: &[i64],
     values: &mut [i64],
     labels: &mut [u32],
+    marks: &mut [u64],
     output: &mut [i64],
     trace: &mut [u32],
     text: &mut [u8],
     answer: &mut [u64],
 ) -> u32
     ensures { λ r. ⌜ runCalled r
-        (lent (now (values .exit)) (now (labels .exit)) (now (output .exit)) (now (trace .exit)) (now (text .exit))) (now (answer .exit))
+        (lent (now (values .exit)) (now (labels .exit)) (now (marks .exit)) (now (output .exit)) (now (trace .exit)) (now (text .exit)))
+        (now (answer .exit))
         ≡ runCall (given (now (container .entry)) (now (draws .entry)))
-        (lent (now (values .entry)) (now (labels .entry)) (now (output .entry)) (now (trace .entry)) (now (text .entry))) (now (answer .entry)) ⌝ }
+        (lent (now (values .entry)) (now (labels .entry)) (now (marks .entry)) (now (output .entry)) (now (trace .entry)) (now (text .entry)))
+        (now (answer .entry)) ⌝ }
 {
     if answer.len() < 4 {
         return 1;
     }
-    let told = evaluator::run(container, draws, values, labels, output, trace, text);
+    let told = evaluator::run(container, draws, values, labels, marks, output, trace, text);
     let numbers = run_numbers(told);
     answer[0] = numbers[0];
     answer[1] = numbers[1];

@@ -1,4 +1,4 @@
--- "Refused because of the input (place: a byte offset)": 11; 12; for each table 13, then for each cell 14, 15; then 16; then for each step
+-- "Refused because of the input (place: a byte offset)": 11; 12; for each table 13, then for each cell 14, 15, then 20; then 16; then for each step
 -- 17, 18, 19.
 use Prim.Native.Nat.{ℕ, zero, suc, _-_}
 use mathlib.Core.List.{List, [], _∷_}

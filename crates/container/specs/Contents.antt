@@ -2,6 +2,7 @@
 use Prim.Native.Nat.{ℕ, zero, suc, _-_}
 use mathlib.Core.List.{List, [], _∷_}
 use Rattle.layout.specs.Layout.{partCount, partOf}
+use Rattle.plan.specs.Sheets.{InputTable, allWithMarks}
 use Rattle.plan.specs.Table.{Table}
 use Rattle.plan.specs.declared.Step.{Step}
 use Rattle.plan_part.specs.PlanPart.{stepCount}
@@ -22,9 +23,13 @@ stepsFrom part step (suc more) = put (stepOf (fieldsAt part step)) (stepsFrom pa
 unfoldable pub planOf : List ℕ → List Step
 planOf bytes = stepsFrom (partOf bytes 0) 0 (stepCount (partOf bytes 0))
 
-abbrev pub tablesFrom : List ℕ → ℕ → ℕ → List Table
+abbrev pub tablesFrom : List ℕ → ℕ → ℕ → List InputTable
 tablesFrom bytes part zero = []
 tablesFrom bytes part (suc more) = tableOf (partOf bytes part) ∷ tablesFrom bytes (suc part) more
 
+unfoldable pub inputTables : List ℕ → List InputTable
+inputTables bytes = tablesFrom bytes 1 (partCount bytes - 1)
+
+-- the tables with the marks of their rows
 unfoldable pub tablesOf : List ℕ → List Table
-tablesOf bytes = tablesFrom bytes 1 (partCount bytes - 1)
+tablesOf bytes = allWithMarks 0 (inputTables bytes)

@@ -18,7 +18,7 @@ use little_endian::byte;
 use plan_check::check_plan;
 use table_check::check_table;
 
-// 13, 14 and 15 of each table in turn.
+// 13, 14, 15 and 20 of each table in turn.
 fn check_tables(container: &[u8]) -> InputCheck
     ensures { λ r. ⌜ inputSays r ≡ checkTables (now (container .entry)) 1 (partCount (now (container .entry)) - 1) ⌝ }
 {

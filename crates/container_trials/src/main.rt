@@ -36,6 +36,7 @@ fn refused_input(refusal: InputRefusal) {
         InputRefusal::Table(place) => refused(13, place),
         InputRefusal::Value(place) => refused(14, place),
         InputRefusal::Label(place) => refused(15, place),
+        InputRefusal::Sheets(place) => refused(20, place),
         InputRefusal::Plan(refusal) => refused_plan(refusal),
     }
 }

@@ -98,7 +98,7 @@ input-refusal-means given lent number place =
     by-check n p long check e =
         let so : checkGiven given ≡ rejected number place = cc in
         let h = input-numbers (given .container) number place so in
-        record { long = long; check = so; from-11 = h .0; to-19 = h .1 }
+        record { long = long; check = so; from-11 = h .0; to-20 = h .1 }
 
 -- ---- the trace
 

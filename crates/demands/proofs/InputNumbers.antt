@@ -1,4 +1,4 @@
--- The input checks refuse with no number but 11 to 19. Assumes nothing.
+-- The input checks refuse with no number but 11 to 20. Assumes nothing.
 use Prim.Native.Nat.{ℕ, zero, suc, _+_, _-_, _*_, _≤_}
 use mathlib.Core.Path.{_≡_, subst}
 use mathlib.Core.Bool.{Bool, true, false, not, _&&_, _||_}
@@ -9,9 +9,10 @@ use lib.ListN.{length, drop}
 use Rattle.container.specs.Check.{checkTables, tableWidths, checkInput}
 use Rattle.layout_check.specs.Checks.{checkContainer, checkPairs, checkDirectory}
 use Rattle.table_check.specs.Checks.{checkCells, checkTable}
+use Rattle.sheet_check.specs.Sheets.{sheetsFit}
 use Rattle.input.specs.Verdict.{InputVerdict, accepted, rejected, andThen, rejectIf}
 use Rattle.layout.specs.Layout.{partCount, pairAt, offsetOf, lengthOf, partOf}
-use Rattle.table_part.specs.TablePart.{columnsOf, rowCount, headerFits, valuePlace, labelPlace, valueOf, labelOf}
+use Rattle.table_part.specs.TablePart.{cellCount, headerFits, valuePlace, labelPlace, valueOf, labelOf}
 use Rattle.label_words.specs.WellFormed.{wellFormed}
 use Rattle.plan.specs.Steps.{takes}
 use Rattle.plan.specs.Widths.{enoughTables, placed, madeColumns}
@@ -23,21 +24,21 @@ use Rattle.records.specs.declared.Found.{Found}
 use Rattle.records.specs.declared.Found.the-variants as found
 use Rattle.value.specs.Range.{inRange}
 
--- a verdict whose number, if it has one, lies from 11 to 19
+-- a verdict whose number, if it has one, lies from 11 to 20
 abbrev Numbered : InputVerdict → Type 0
 Numbered accepted = Unit
-Numbered (rejected number place) = (11 ≤ number) × (number ≤ 19)
+Numbered (rejected number place) = (11 ≤ number) × (number ≤ 20)
 
 both : (first later : InputVerdict) → Numbered first → Numbered later → Numbered (andThen first later)
 both accepted later n m = m
 both (rejected number place) later n m = n
 
-only : (fact : Bool) (number place : ℕ) → 11 ≤ number → number ≤ 19 → Numbered (rejectIf fact number place)
+only : (fact : Bool) (number place : ℕ) → 11 ≤ number → number ≤ 20 → Numbered (rejectIf fact number place)
 only true number place from to = (from, to)
 only false number place from to = tt
 
 -- a test, and those after it
-next : (fact : Bool) (number place : ℕ) (later : InputVerdict) → 11 ≤ number → number ≤ 19 → Numbered later → Numbered (andThen (rejectIf fact number place) later)
+next : (fact : Bool) (number place : ℕ) (later : InputVerdict) → 11 ≤ number → number ≤ 20 → Numbered later → Numbered (andThen (rejectIf fact number place) later)
 next fact number place later from to = both (rejectIf fact number place) later (only fact number place from to)
 
 pairs : (bytes : List ℕ) (part more expected : ℕ) → Numbered (checkPairs bytes part more expected)
@@ -53,7 +54,9 @@ cells part at cell (suc more) =
 
 table : (part : List ℕ) (at : ℕ) → Numbered (checkTable part at)
 unfolding checkTable
-table part at = next (not (headerFits part)) 13 at _ (omega arith) (omega arith) (cells part at 0 (rowCount part * columnsOf part))
+table part at =
+    next (not (headerFits part)) 13 at _ (omega arith) (omega arith)
+    (both (checkCells part at 0 (cellCount part)) _ (cells part at 0 (cellCount part)) (only (not (sheetsFit part)) 20 at (omega arith) (omega arith)))
 
 tables : (bytes : List ℕ) (part more : ℕ) → Numbered (checkTables bytes part more)
 tables bytes part zero = tt
@@ -82,5 +85,5 @@ input bytes =
     (next (not (lengthFits (partOf bytes 0))) 16 (offsetOf bytes 0) _ (omega arith) (omega arith)
     (steps (partOf bytes 0) (offsetOf bytes 0) 0 (stepCount (partOf bytes 0)) (tableWidths bytes 1 (partCount bytes - 1)) []))))
 
-pub input-numbers : (bytes : List ℕ) (number place : ℕ) → checkInput bytes ≡ rejected number place → (11 ≤ number) × (number ≤ 19)
+pub input-numbers : (bytes : List ℕ) (number place : ℕ) → checkInput bytes ≡ rejected number place → (11 ≤ number) × (number ≤ 20)
 input-numbers bytes number place e = subst Numbered e (input bytes)

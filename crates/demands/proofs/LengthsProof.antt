@@ -21,17 +21,20 @@ pub lengths-kept : LengthsKept
 lengths-kept given lent = by-cases given lent (λ run. SameLengths lent (run .left)) (λ short. same) (λ n p long check. same) kept
   where
     same : SameLengths lent lent
-    same = record { values = refl; labels = refl; output = refl; trace = refl; text = refl }
+    same = record { values = refl; labels = refl; marks = refl; output = refl; trace = refl; text = refl }
 
-    long : enough lent ≡ true → (8192 ≤ length (lent .values)) × (8192 ≤ length (lent .labels)) × (2048 ≤ length (lent .output)) × (256 ≤ length (lent .trace))
+    long : enough lent ≡ true
+        → (8192 ≤ length (lent .values)) × (8192 ≤ length (lent .labels)) × (1024 ≤ length (lent .marks)) × (2048 ≤ length (lent .output)) × (256 ≤ length (lent .trace))
     long e =
         let v = leb 8192 (length (lent .values)) in
         let l = leb 8192 (length (lent .labels)) in
+        let m = leb 1024 (length (lent .marks)) in
         let o = leb 2048 (length (lent .output)) in
-        let a = and-eq-true-iff (v && l && o) (leb 256 (length (lent .trace))) .0 e in
-        let b = and-eq-true-iff (v && l) o .0 (a .0) in
-        let c = and-eq-true-iff v l .0 (b .0) in
-        (leb-true 8192 _ (c .0), leb-true 8192 _ (c .1), leb-true 2048 _ (b .1), leb-true 256 _ (a .1))
+        let a = and-eq-true-iff (v && l && m && o) (leb 256 (length (lent .trace))) .0 e in
+        let b = and-eq-true-iff (v && l && m) o .0 (a .0) in
+        let c = and-eq-true-iff (v && l) m .0 (b .0) in
+        let d = and-eq-true-iff v l .0 (c .0) in
+        (leb-true 8192 _ (d .0), leb-true 8192 _ (d .1), leb-true 1024 _ (c .1), leb-true 2048 _ (b .1), leb-true 256 _ (a .1))
 
     fits : Begun given lent → (length (rowsOut (runOutcome given lent)) ≤ 2048) × (length (textOut (runOutcome given lent)) ≤ length (lent .text))
     fits b =
@@ -45,7 +48,8 @@ lengths-kept given lent = by-cases given lent (λ run. SameLengths lent (run .le
         record {
           values = filled-length 8192 (pos 0) (lent .values) (h .0);
           labels = filled-length 8192 0 (lent .labels) (h .1);
-          output = over-length (rowsOut (runOutcome given lent)) (lent .output) (le-trans (fits b .0) (h .2));
-          trace = over-length (flatLines (evaluation given .trace)) (lent .trace) (le-trans (lines-most given (b .accepted-is)) (h .3));
+          marks = filled-length 1024 0 (lent .marks) (h .2);
+          output = over-length (rowsOut (runOutcome given lent)) (lent .output) (le-trans (fits b .0) (h .3));
+          trace = over-length (flatLines (evaluation given .trace)) (lent .trace) (le-trans (lines-most given (b .accepted-is)) (h .4));
           text = over-length (textOut (runOutcome given lent)) (lent .text) (fits b .1);
         }

@@ -1,5 +1,6 @@
 -- The proofs of the demands. Runs, Widths, Columns and Texts are also for the proofs of other crates to cite.
 pub mod Runs
+mod AlikeSheets
 pub mod SecrecyProof
 mod Slices
 pub mod MemoryProof

@@ -38,4 +38,6 @@ begun-leaves-zero given lent b = rw (begun-run given lent b) (record {
   values-past = filled-past 8192 (pos 0) (lent .values);
   labels-zero = filled-get 8192 0 (lent .labels);
   labels-past = filled-past 8192 0 (lent .labels);
+  marks-zero = filled-get 1024 0 (lent .marks);
+  marks-past = filled-past 1024 0 (lent .marks);
 })

@@ -27,11 +27,11 @@ abbrev pub CheckRefuses : Type 0
 CheckRefuses = (bytes answer : List ℕ) → 2 ≤ length answer → (number place : ℕ) → checkInput bytes ≡ rejected number place
     → checkCall bytes answer ≡ checkCalled number (number ∷ place ∷ drop 2 answer)
 
--- why a call tells what it tells: 0 for an accepted container, 11 to 19 for a refusal, 1 for a slice too short, and no other
+-- why a call tells what it tells: 0 for an accepted container, 11 to 20 for a refusal, 1 for a slice too short, and no other
 pub data Checked (bytes answer : List ℕ) (call : CheckCall) : Type 0 where
   accepts : 2 ≤ length answer → call ≡ checkCalled 0 (0 ∷ 0 ∷ drop 2 answer) → checkInput bytes ≡ accepted → Checked bytes answer call
   refuses : {number place : ℕ} → 2 ≤ length answer → call ≡ checkCalled number (number ∷ place ∷ drop 2 answer) → checkInput bytes ≡ rejected number place
-      → 11 ≤ number → number ≤ 19 → Checked bytes answer call
+      → 11 ≤ number → number ≤ 20 → Checked bytes answer call
   short : length answer < 2 → call .number ≡ 1 → Checked bytes answer call
 
 abbrev pub CheckMeans : Type 0

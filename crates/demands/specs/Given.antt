@@ -4,7 +4,8 @@ use mathlib.Core.List.{List}
 use lib.IntN.{ℤ}
 use Rattle.container.specs.Check.{checkInput}
 use Rattle.input.specs.Verdict.{InputVerdict}
-use Rattle.container.specs.Contents.{planOf, tablesOf}
+use Rattle.container.specs.Contents.{planOf, inputTables, tablesOf}
+use Rattle.plan.specs.Sheets.{InputTable}
 use Rattle.plan.specs.Supply.{Supply, supplied}
 use Rattle.plan.specs.Table.{Table}
 use Rattle.plan.specs.declared.Step.{Step}
@@ -20,9 +21,12 @@ given container draws = record { container = container; draws = draws }
 abbrev pub checkGiven : Given → InputVerdict
 checkGiven given = checkInput (given .container)
 
--- the plan, and the tables that it is evaluated over: the container's as they are
+-- the plan, and the tables that it is evaluated over: the container's as they are, and those with the marks of their rows (#103)
 abbrev pub planGiven : Given → List Step
 planGiven given = planOf (given .container)
+
+abbrev pub tablesGiven : Given → List InputTable
+tablesGiven given = inputTables (given .container)
 
 abbrev pub prepared : Given → List Table
 prepared given = tablesOf (given .container)

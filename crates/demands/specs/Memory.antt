@@ -23,12 +23,15 @@ InputRefusalKeepsAll = (given : Given) (lent : Lent) (number place : ℕ) → mo
 abbrev pub ShortKeepsAll : Type 0
 ShortKeepsAll = (given : Given) (lent : Lent) → enough lent ≡ false → monitor given lent ≡ record { answer = refusedState 1 0 0 0; left = lent }
 
--- a run that was begun leaves its work memory zero, and what lies past the first 8,192 elements as it was
+-- A run that was begun leaves its work memory zero, and what lies past the first 8,192 elements as it was. #103: "A further work slice
+-- of 1,024 marks is lent, tested under 1 and left zero."
 pub record Zeroed (lent left : Lent) : Type 0 where
   pub values-zero : (i : ℕ) (d : ℤ) → i < 8192 → getD (left .values) i d ≡ pos 0
   pub values-past : drop 8192 (left .values) ≡ drop 8192 (lent .values)
   pub labels-zero : (i d : ℕ) → i < 8192 → getD (left .labels) i d ≡ 0
   pub labels-past : drop 8192 (left .labels) ≡ drop 8192 (lent .labels)
+  pub marks-zero : (i d : ℕ) → i < 1024 → getD (left .marks) i d ≡ 0
+  pub marks-past : drop 1024 (left .marks) ≡ drop 1024 (lent .marks)
 
 abbrev pub BegunLeavesZero : Type 0
 BegunLeavesZero = (given : Given) (lent : Lent) → Begun given lent → Zeroed lent (monitor given lent .left)
@@ -37,6 +40,7 @@ BegunLeavesZero = (given : Given) (lent : Lent) → Begun given lent → Zeroed 
 pub record SameLengths (lent left : Lent) : Type 0 where
   pub values : length (left .values) ≡ length (lent .values)
   pub labels : length (left .labels) ≡ length (lent .labels)
+  pub marks : length (left .marks) ≡ length (lent .marks)
   pub output : length (left .output) ≡ length (lent .output)
   pub trace : length (left .trace) ≡ length (lent .trace)
   pub text : length (left .text) ≡ length (lent .text)

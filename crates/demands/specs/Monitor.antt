@@ -49,12 +49,13 @@ abbrev pub written : {A : Type 0} → List A → List A → List A
 written news old = news ++ drop (length news) old
 
 -- "A release writes the rows to the output"; "write the trace lines of the finished steps from the start of the trace"; "Both leave the
--- first 8,192 elements of both work slices zero; everything else lent is unchanged." #101: "The text goes, beside the rows, to a lent byte slice
--- of its own, from its start".
+-- first 8,192 elements of both work slices zero; everything else lent is unchanged." #103: the marks are "left zero". #101: "The text goes,
+-- beside the rows, to a lent byte slice of its own, from its start".
 abbrev pub leftBy : Outcome → List Line → Lent → Lent
 leftBy outcome trace lent = record {
   values = filled 8192 (pos 0) (lent .values);
   labels = filled 8192 0 (lent .labels);
+  marks = filled 1024 0 (lent .marks);
   output = written (rowsOut outcome) (lent .output);
   trace = written (flatLines trace) (lent .trace);
   text = written (textOut outcome) (lent .text);

@@ -4,15 +4,15 @@ use mathlib.Core.Path.{_≡_}
 use mathlib.Core.Bool.{true}
 use Rattle.input.specs.Verdict.{accepted}
 use Rattle.plan.specs.Secrecy.{Pairwise, AlikeTables}
-use Rattle.demands.specs.Given.{Given, checkGiven, planGiven, prepared}
+use Rattle.demands.specs.Given.{Given, checkGiven, planGiven, tablesGiven}
 use Rattle.demands.specs.Lent.{Lent, enough}
 use Rattle.demands.specs.Monitor.{monitor}
 
--- two inputs with the same plan, with tables alike but for the values of cells that the plan locks, and #102: "The two compared inputs use the
--- same list."
+-- two inputs with the same plan, with tables alike but for the values of cells that the plan locks (#103: byte 1 is the same in both), and
+-- #102: "The two compared inputs use the same list."
 pub record AlikeInputs (a b : Given) : Type 0 where
   pub plans : planGiven a ≡ planGiven b
-  pub tables : Pairwise (AlikeTables (planGiven a)) (prepared a) (prepared b)
+  pub tables : Pairwise (AlikeTables (planGiven a)) (tablesGiven a) (tablesGiven b)
   pub draws : a .draws ≡ b .draws
 
 -- Two inputs that differ only in the values of locked cells give the same answer, rows, places and trace lines, and leave every lent slice

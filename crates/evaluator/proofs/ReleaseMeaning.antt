@@ -16,11 +16,12 @@ use Rattle.plan.specs.Table.{Cell, Table, grid, labelsOf, rowsOf}
 use Rattle.plan.specs.Verdict.{Verdict, fine, refused, orElse, refuseIf, notClear}
 use Rattle.cells.specs.promises.Cells.{cellsOf, gridOf}
 use Rattle.cells.specs.promises.Search.{says, unfit, tableWithin, notClearAt}
-use Rattle.cells.specs.promises.Work.{Work, work, cellsIn, room}
-use Rattle.memory.specs.promises.Stack.{tableIn}
+use Rattle.cells.specs.promises.Work.{Work, work, cellsIn, room, markRoom}
+use Rattle.memory.specs.promises.Stack.{markSlot, markPart, tableIn}
 use Rattle.cells.proofs.CellLaws.{cells-drop, values-front}
 use Rattle.memory.proofs.Finish.{says-is, never-unfit}
-use Rattle.cells.proofs.Rows.{grid-rows, rows-length}
+use Rattle.cells.proofs.Rows.{marked-grid, marked-length}
+use Rattle.memory.proofs.Stacks.{marks-count}
 use Rattle.cells.proofs.Wanted.{search-same}
 use Rattle.tally.specs.promises.Output.{copied}
 use Rattle.tally.specs.promises.Over.{firstOverAt}
@@ -53,25 +54,34 @@ answerBy rows columns steps fine bytes = released rows columns bytes
 answerBy rows columns steps (refused number row column) bytes = refusedState number steps row column
 
 -- the values of rows in memory
-rows-cut : (columns rows : ℕ) (vs : List ℤ) (ls : List ℕ) → rows * columns ≤ length ls
-    → map (λ row. map (λ cell. cell .value) (row .cells)) (rowsOf columns rows (cellsOf vs ls)) ≡ cut columns rows vs
-rows-cut columns zero vs ls h = refl
-rows-cut columns (suc rows) vs ls h =
+rows-cut : (columns : ℕ) (marks : List ℕ) (vs : List ℤ) (ls : List ℕ) → length marks * columns ≤ length ls
+    → map (λ row. map (λ cell. cell .value) (row .cells)) (rowsOf columns marks (cellsOf vs ls)) ≡ cut columns (length marks) vs
+rows-cut columns [] vs ls h = refl
+rows-cut columns (mark ∷ marks) vs ls h =
     ap₂ _∷_ (values-front (work vs ls) columns (omega arith))
-    (ap (λ (l : List Cell). map (λ row. map (λ cell. cell .value) (row .cells)) (rowsOf columns rows l)) (sym (cells-drop columns vs ls))
-    ∙ rows-cut columns rows (drop columns vs) (drop columns ls) (simp length-drop (omega arith)))
+    (ap (λ (l : List Cell). map (λ row. map (λ cell. cell .value) (row .cells)) (rowsOf columns marks l)) (sym (cells-drop columns vs ls))
+    ∙ rows-cut columns marks (drop columns vs) (drop columns ls) (simp length-drop (omega arith)))
 
-module _ (w : Work) (rows columns steps : ℕ) (few : rows ≤ 256) (narrow : columns ≤ 8) (in-values : room ≤ length (w .values)) (in-labels : room ≤ length (w .labels)) where
+module _ (w : Work) (allMarks : List ℕ) (rows columns steps : ℕ) (few : rows ≤ 256) (narrow : columns ≤ 8) (in-values : room ≤ length (w .values)) (in-labels : room ≤ length (w .labels))
+    (in-marks : markRoom ≤ length allMarks) where
   abbrev table : Table
-  table = tableIn w 0 columns rows
+  table = tableIn (record { work = w; marks = allMarks }) 0 columns rows
+
+  -- the marks of its rows
+  abbrev marks : List ℕ
+  marks = markPart allMarks (markSlot 0) rows
+
+  as-many : length marks ≡ rows
+  as-many = marks-count allMarks (markSlot 0) rows (omega arith)
 
   pub cells-few : rows * columns ≤ 2048
   cells-few = mul-le-mul few narrow
 
   grid-is : grid table ≡ gridOf columns rows (drop 0 (w .labels))
   grid-is =
-      ap (λ (m : List Cell). map labelsOf (rowsOf columns rows m)) (sym (cells-drop 0 (w .values) (w .labels)))
-      ∙ grid-rows columns rows (drop 0 (w .values)) (drop 0 (w .labels)) (simp length-drop (omega (arith, cells-few)))
+      ap (λ (m : List Cell). map labelsOf (rowsOf columns marks m)) (sym (cells-drop 0 (w .values) (w .labels)))
+      ∙ marked-grid columns marks (drop 0 (w .values)) (drop 0 (w .labels)) (rw as-many (simp length-drop (omega (arith, cells-few))))
+      ∙ ap (λ (n : ℕ). gridOf columns n (drop 0 (w .labels))) as-many
 
   fits-labels : tableWithin 0 rows columns (length (w .labels)) ≡ true
   fits-labels = table-fits 0 rows columns (length (w .labels)) few narrow (omega (arith, cells-few))
@@ -92,7 +102,7 @@ module _ (w : Work) (rows columns steps : ℕ) (few : rows ≤ 256) (narrow : co
 
   over-searched : firstOverAt 0 (w .values) 0 rows columns ≡ says overs
   unfolding overs
-  over-searched = rw fits-values (ap says (sym (table-over w 0 columns rows 0 (omega (arith, cells-few)))))
+  over-searched = rw fits-values (ap says (sym (table-over w 0 columns rows marks as-many 0 (omega (arith, cells-few)))))
 
   one-after-another : (u v x : Verdict) → afterFine (says u) (afterFine (says v) (says x)) ≡ says (orElse (orElse u v) x)
   one-after-another fine fine x = refl
@@ -103,8 +113,9 @@ module _ (w : Work) (rows columns steps : ℕ) (few : rows ≤ 256) (narrow : co
   text-same : textFrom (w .values) rows columns ≡ tableText table
   text-same =
       ap (textOf columns)
-      (sym (ap (λ (m : List Cell). map (λ row. map (λ cell. cell .value) (row .cells)) (rowsOf columns rows m)) (sym (cells-drop 0 (w .values) (w .labels)))
-      ∙ rows-cut columns rows (drop 0 (w .values)) (drop 0 (w .labels)) (simp length-drop (omega (arith, cells-few)))))
+      (sym (ap (λ (m : List Cell). map (λ row. map (λ cell. cell .value) (row .cells)) (rowsOf columns marks m)) (sym (cells-drop 0 (w .values) (w .labels)))
+      ∙ rows-cut columns marks (drop 0 (w .values)) (drop 0 (w .labels)) (rw as-many (simp length-drop (omega (arith, cells-few))))
+      ∙ ap (λ (n : ℕ). cut columns n (w .values)) as-many))
 
   module _ (some : 1 ≤ columns) (output : List ℤ) (long : 2048 ≤ length output) (text : List ℕ) where
     abbrev fits : Bool
@@ -124,7 +135,7 @@ module _ (w : Work) (rows columns steps : ℕ) (few : rows ≤ 256) (narrow : co
     -- the values of the table, before what is left of the output
     values-out : copied (w .values) 0 (rows * columns) output ≡ written (rowsOut (release table)) output
     values-out =
-        let values-are = table-values w 0 columns rows (omega (arith, cells-few)) in
+        let values-are = table-values w 0 columns rows marks as-many (omega (arith, cells-few)) in
         let count : length (take (rows * columns) (drop 0 (w .values))) ≡ rows * columns = length-take-le (rows * columns) (drop 0 (w .values)) (simp length-drop (omega (arith, cells-few))) in
         ap₂ (λ (x : List ℤ) (n : ℕ). x ++ drop n output) (sym values-are) (sym count ∙ ap length (sym values-are))
 
@@ -153,7 +164,7 @@ module _ (w : Work) (rows columns steps : ℕ) (few : rows ≤ 256) (narrow : co
         by-verdict : (v : Verdict) → bytesTold answer ≡ bytesAfter (says v) (w .values) rows columns → output₁ ≡ outputAfter (says v) (w .values) output rows columns
             → text₁ ≡ exportAfter (says v) (w .values) text rows columns → Ends (outcomeBy v) output text (answerBy rows columns steps v (bytesTold answer)) output₁ text₁
         by-verdict fine b o t = record {
-          told-is = ap₂ (λ (n m : ℕ). released n columns m) (sym (rows-length columns rows (drop 0 (cellsIn w)))) (b ∙ ap length text-same);
+          told-is = ap₂ (λ (n m : ℕ). released n columns m) (sym (marked-length columns marks (drop 0 (cellsIn w)) ∙ as-many)) (b ∙ ap length text-same);
           output-is = o ∙ values-out;
           text-is = t ∙ ap (λ (l : List ℕ). written l text) text-same;
         }

@@ -70,6 +70,7 @@ fn lend(container: &[u8], room: usize) {
 fn run(container: &[u8], text: &mut [u8]) -> [u64; 4] {
     let mut values = [0i64; 8192];
     let mut labels = [0u32; 8192];
+    let mut marks = [0u64; 1024];
     let mut output = [0i64; 2048];
     let mut trace = [0u32; 256];
     let mut answer = [0u64; 4];
@@ -79,6 +80,7 @@ fn run(container: &[u8], text: &mut [u8]) -> [u64; 4] {
         &draws,
         &mut values,
         &mut labels,
+        &mut marks,
         &mut output,
         &mut trace,
         text,

@@ -10,13 +10,13 @@ use native.Mathlib.Omega.{arith}
 use lib.IntN.{pos}
 use lib.ListN.{length, getD, take, drop, length-drop}
 use Rattle.label_words.specs.WellFormed.{wellFormed}
-use Rattle.cells.specs.promises.Cells.{Wide, rowFrom}
+use Rattle.cells.specs.promises.Cells.{bareRows, Wide, rowFrom}
 use Rattle.cells.specs.promises.Labelled.{columnFormed}
 use Rattle.cells.specs.promises.Work.{Work, cellsIn, room, Kept}
 use Rattle.cells.specs.promises.Written.{Written, CellsWritten, Put}
 use Rattle.memory.specs.declared.LiveTable.{LiveTable}
 use Rattle.memory.specs.promises.Stack.{lastSlot, rowsIn, labelsIn, Inside, RowsAt}
-use Rattle.plan.specs.Table.{Each, Cell, Row, blank, rowsOf, flat}
+use Rattle.plan.specs.Table.{Each, Cell, Row, blank, flat}
 use Rattle.cells.proofs.CellLaws.{movedIn, cells-get, kept-none, kept-then}
 use Rattle.cells.proofs.RowReads.{rowOf, row-cells, flat-append, flat-length}
 use Rattle.cells.proofs.Rows.{rows-wide, rows-more, rows-length}
@@ -29,10 +29,10 @@ use Rattle.extension.proofs.Rows.{extended, extendedFrom, extended-wide
 
 -- the rows made of a table's first ones
 abbrev pub madeOf : (ℕ → Row → Cell) → LiveTable → Work → ℕ → List Row
-madeOf new top w row = extendedFrom new 0 (rowsOf (top .columns) row (drop (top .at) (cellsIn w)))
+madeOf new top w row = extendedFrom new 0 (bareRows (top .columns) row (drop (top .at) (cellsIn w)))
 
 pub made-count : (new : ℕ → Row → Cell) (top : LiveTable) (w : Work) (row : ℕ) → length (madeOf new top w row) ≡ row
-made-count new top w row = extended-count new 0 (rowsOf (top .columns) row (drop (top .at) (cellsIn w))) ∙ rows-length (top .columns) row (drop (top .at) (cellsIn w))
+made-count new top w row = extended-count new 0 (bareRows (top .columns) row (drop (top .at) (cellsIn w))) ∙ rows-length (top .columns) row (drop (top .at) (cellsIn w))
 
 pub record Making (new : ℕ → Row → Cell) (top : LiveTable) (w₀ w : Work) (from to row : ℕ) : Type 0 where
   pub row-le : row ≤ top .rows
@@ -76,7 +76,7 @@ module _ {new : ℕ → Row → Cell} {top : LiveTable} {w₀ : Work} (r : Insid
     long =
         let wide = rows-wide (top .columns) row (drop (top .at) (cellsIn w₀)) (simp length-drop (omega (arith, reach, r .below, cells-room w₀ r))) in
         let count : length (flat (madeOf new top w₀ row)) ≡ row * (top .columns + 1)
-        = flat-length (top .columns + 1) (madeOf new top w₀ row) (extended-wide new (top .columns) 0 (rowsOf (top .columns) row (drop (top .at) (cellsIn w₀))) wide)
+        = flat-length (top .columns + 1) (madeOf new top w₀ row) (extended-wide new (top .columns) 0 (bareRows (top .columns) row (drop (top .at) (cellsIn w₀))) wide)
         ∙ ap (λ (n : ℕ). n * (top .columns + 1)) (made-count new top w₀ row) in
         omega (arith, count, s .to-is)
 
@@ -98,7 +98,7 @@ module _ {new : ℕ → Row → Cell} {top : LiveTable} {w₀ : Work} (r : Insid
         let put : Written (cellsIn w) to (extended new row (hereOf top w₀ row) .cells) (cellsIn after) = rw (← cells) (one .written) in
         let more : madeOf new top w₀ (row + 1) ≡ (madeOf new top w₀ row) ++ (extended new row (hereOf top w₀ row) ∷ [])
         = ap (madeOf new top w₀) (add-one row) ∙ ap (extendedFrom new 0) (rows-more (top .columns) row (drop (top .at) (cellsIn w₀)))
-        ∙ extended-more new 0 (rowsOf (top .columns) row (drop (top .at) (cellsIn w₀))) _
+        ∙ extended-more new 0 (bareRows (top .columns) row (drop (top .at) (cellsIn w₀))) _
         ∙ ap (λ (k : ℕ). madeOf new top w₀ row ++ (extended new k (hereOf top w₀ row) ∷ [])) (zero-add _ ∙ rows-length (top .columns) row (drop (top .at) (cellsIn w₀))) in
         let longer : flat (madeOf new top w₀ (row + 1)) ≡ flat (madeOf new top w₀ row) ++ extended new row (hereOf top w₀ row) .cells
         = ap flat more ∙ flat-append (madeOf new top w₀ row) _ ∙ ap (λ (t : List Cell). flat (madeOf new top w₀ row) ++ t) (append-nil _) in
@@ -131,5 +131,5 @@ module _ (new : ℕ → Row → Cell) {top : LiveTable} {w₀ w : Work} (r : Ins
   pub table-labels : Moves lastSlot (top .at) (top .rows * (top .columns + 1)) (length (w .labels))
   table-labels = down-labels (top .at) (top .columns + 1) (top .rows) rows put wide counted (omega (arith, r .below)) few (r .values-room) (r .labels-room)
 
-  pub table-down : RowsAt (top .at) (top .columns + 1) (top .rows) rows w₀ (movedIn lastSlot (top .at) (top .rows * (top .columns + 1)) w)
+  pub table-down : RowsAt (top .at) rows w₀ (movedIn lastSlot (top .at) (top .rows * (top .columns + 1)) w)
   table-down = moved-down (top .at) (top .columns + 1) (top .rows) rows put wide counted (omega (arith, r .below)) few (r .values-room) (r .labels-room)

@@ -4,3 +4,4 @@ pub mod Leaves
 pub mod RowExtended
 pub mod Rows
 pub mod Extending
+pub mod Ends

@@ -1,17 +1,18 @@
 -- Rows with one cell more. Assumes nothing.
 use Prim.Native.Nat.{ℕ, suc, _+_}
-use mathlib.Core.Path.{_≡_, refl, sym, ap, _∙_}
-use mathlib.Core.List.{List, [], _∷_, _++_}
+use mathlib.Core.Path.{_≡_, refl, sym, ap, ap₂, _∙_}
+use mathlib.Core.List.{List, [], _∷_, _++_, map}
 use native.Mathlib.Nat.{add-zero}
 use native.Mathlib.Omega.{arith}
 use lib.ListN.{length, length-append}
 use Rattle.cells.specs.promises.Cells.{Wide}
-use Rattle.plan.specs.Table.{Each, Cell, Row}
+use Rattle.plan.specs.Table.{Each, Cell, Row, flat}
+use Rattle.cells.proofs.Rows.{bare}
 
 -- `new` gives the cell that a row gets, by the row's number
 module _ (new : ℕ → Row → Cell) where
   abbrev pub extended : ℕ → Row → Row
-  extended i row = record { cells = row .cells ++ (new i row ∷ []) }
+  extended i row = record { cells = row .cells ++ (new i row ∷ []); mark = row .mark }
 
   -- rows that are numbered from `i` on
   abbrev pub extendedFrom : ℕ → List Row → List Row
@@ -32,3 +33,13 @@ module _ (new : ℕ → Row → Cell) where
   extended-more i (first ∷ rest) row =
       let next : suc i + length rest ≡ i + suc (length rest) = omega arith in
       ap (λ (l : List Row). extended i first ∷ l) (extended-more (suc i) rest row ∙ ap (λ (k : ℕ). extendedFrom (suc i) rest ++ (extended k row ∷ [])) next)
+
+  -- each row keeps its mark
+  pub extended-marks : (i : ℕ) (rows : List Row) → map (λ row. row .mark) (extendedFrom i rows) ≡ map (λ row. row .mark) rows
+  extended-marks i [] = refl
+  extended-marks i (row ∷ rest) = ap (λ (l : List ℕ). row .mark ∷ l) (extended-marks (suc i) rest)
+
+  -- and where the new cell does not depend on it, neither do the cells
+  pub extended-bare : ((i : ℕ) (row : Row) → new i row ≡ new i (bare row)) → (i : ℕ) (rows : List Row) → flat (extendedFrom i rows) ≡ flat (extendedFrom i (map bare rows))
+  extended-bare same i [] = refl
+  extended-bare same i (row ∷ rest) = ap₂ (λ (cell : Cell) (l : List Cell). (row .cells ++ (cell ∷ [])) ++ l) (same i row) (extended-bare same (suc i) rest)

@@ -10,13 +10,14 @@ ghost use Rattle.plan.specs.declared.Step.the-variants.{Filter};
 ghost use Rattle.plan.specs.Filter as spec;
 ghost use Rattle.plan.specs.Supply.{Supply};
 ghost use Rattle.plan.specs.Widths.{operandColumnExists};
-ghost use Rattle.cells.specs.promises.Work.{work};
-ghost use Rattle.memory.specs.promises.Stack.{Inside};
+ghost use Rattle.cells.specs.promises.Work.{memoryOf};
+ghost use Rattle.memory.specs.promises.Stack.{Inside, MarksInside};
 ghost use Rattle.memory.specs.promises.Steps.{Done};
 ghost use Rattle.operand.specs.promises.Operands.{operandAt};
 ghost use Rattle.filter.specs.promises.Filtering as here;
 use cells::Place;
 use memory::LiveTable;
+use memory::MARK_ROOM;
 use memory::Refusal;
 use memory::Stack;
 use memory::StepAnswer;
@@ -30,14 +31,22 @@ use widths::Width;
 pub fn filter(
     values: &mut [i64],
     labels: &mut [u32],
+    marks: &mut [u64],
     stack: Stack,
     column: usize,
     comparison: Comparison,
     operand: Operand,
 ) -> Stepped
     ensures { λ r. ⌜ ((supply : Supply) → Done (Filter column comparison operand) supply
-        (work (now (values .entry)) (now (labels .entry))) stack r (work (now (values .exit)) (now (labels .exit)))) ⌝ }
+        (memoryOf (now (values .entry)) (now (labels .entry)) (now (marks .entry))) stack r
+        (memoryOf (now (values .exit)) (now (labels .exit)) (now (marks .exit)))) ⌝ }
 {
+    if marks.len() < MARK_ROOM {
+        return Stepped {
+            answer: StepAnswer::DoesNotFit,
+            stack: stack,
+        };
+    }
     let step = Step::Filter {
         column,
         comparison,
@@ -66,7 +75,7 @@ pub fn filter(
             stack: stack,
         },
         Place::Nowhere => {
-            let kept = filter_rows(values, labels, top, column, comparison, operand);
+            let kept = filter_rows(values, labels, marks, top, column, comparison, operand);
             Stepped {
                 answer: StepAnswer::Made,
                 stack: memory::with_table(stack, top.slot, columns, kept),
@@ -90,15 +99,17 @@ fn read_by(column: usize, operand: Operand) -> u32
 fn filter_rows(
     values: &mut [i64],
     labels: &mut [u32],
+    marks: &mut [u64],
     top: LiveTable,
     column: usize,
     comparison: Comparison,
     operand: Operand,
 ) -> usize
-    requires { ⌜ Inside top (length (now values)) (length (now labels)) ⌝ }
+    requires { ⌜ Inside top (length (now values)) (length (now labels)) × MarksInside top (length (now marks)) ⌝ }
     requires { ⌜ (column < top .columns) × (operandColumnExists operand (top .columns) ≡ true) ⌝ }
-    ensures { λ r. ⌜ here.Filtered top column comparison operand (work (now (values .entry)) (now (labels .entry))) r
-        (work (now (values .exit)) (now (labels .exit))) ⌝ }
+    ensures { λ r. ⌜ here.Filtered top column comparison operand
+        (memoryOf (now (values .entry)) (now (labels .entry)) (now (marks .entry))) r
+        (memoryOf (now (values .exit)) (now (labels .exit)) (now (marks .exit))) ⌝ }
 {
     let mut kept = 0;
     let mut from = top.at;
@@ -107,6 +118,7 @@ fn filter_rows(
     while row < top.rows {
         if passes(values, from, column, comparison, operand) {
             moves::move_cells(values, labels, from, to, top.columns);
+            marks[top.marks + kept] = marks[top.marks + row];
             to += top.columns;
             kept += 1;
         }

@@ -12,7 +12,7 @@ use Rattle.group.specs.declared.Grouping.{Grouping}
 use Rattle.plan.specs.Group.{aggregateValue}
 use Rattle.plan.specs.Table.{Cell, cellAt}
 use Rattle.group.proofs.Choosing.{chosen-fewer}
-use Rattle.accumulator.proofs.Laws.{rows-from, value-is}
+use Rattle.accumulator.proofs.Laws.{value-is}
 use Rattle.cells.proofs.Rows.{rows-length}
 
 module _ (g : Grouping) (memory : List Cell) (leaders : List ℕ) (row : ℕ) (s : Accumulator) (few : g .rows ≤ 256) (h : row < g .rows)
@@ -31,10 +31,6 @@ module _ (g : Grouping) (memory : List Cell) (leaders : List ℕ) (row : ℕ) (s
   as-many : length others ≡ length (later g memory leaders row)
   unfolding others
   as-many = length-map (map (cellAt (g .column)) (later g memory leaders row)) (λ (cell : Cell). cell .value) ∙ length-map (later g memory leaders row) (cellAt (g .column))
-
-  pub size-is : s .rows ≡ length (members g memory leaders row)
-  unfolding first others
-  size-is = ap (λ (s : Accumulator). s .rows) e ∙ rows-from (single first) others (omega (arith, as-many, few-later)) ∙ omega (arith, as-many)
 
   pub aggregate-is : aggregateOf (g .aggregate) s ≡ aggregateValue (g .aggregate) (columnValues (g .column) (members g memory leaders row))
   unfolding first others

@@ -3,16 +3,15 @@ use Prim.Native.Nat.{ℕ}
 use mathlib.Core.Path.{_≡_}
 use mathlib.Core.Bool.{true, cond}
 use mathlib.Core.List.{List, [], _∷_, _++_, map}
-use lib.ListN.{length}
 use Rattle.cells.specs.promises.Labelled.{Formed, LabelledRow, Labelled}
-use Rattle.cells.specs.promises.Work.{Work}
+use Rattle.cells.specs.promises.Work.{Memory}
 use Rattle.group.specs.promises.Fits.{groupFits}
 use Rattle.label_words.specs.WellFormed.{wellFormed}
 use Rattle.memory.specs.declared.Stack.{Stack}
 use Rattle.memory.specs.promises.Stack.{stackIn}
 use Rattle.memory.specs.promises.Steps.{fitsIn}
 use Rattle.plan.specs.Filter.{passing}
-use Rattle.plan.specs.Group.{sameKeys, anySame, groupsAfter, composedAfter, groupRow, grouped}
+use Rattle.plan.specs.Group.{sameKeys, anySame, groupsAfter, groupSize, composedAfter, groupRow, grouped}
 use Rattle.plan.specs.Keep.{keptCells}
 use Rattle.plan.specs.Numbers.{aggregateCode}
 use Rattle.plan.specs.Supply.{Supply}
@@ -26,9 +25,9 @@ use Rattle.memory.proofs.TopLabels.{top-formed}
 use Rattle.plan.proofs.SenseShape.{each-append, each-cond, each-map}
 
 -- live tables whose labels are well-formed ask no more than every step
-pub group-fits : (keys : ℕ) (aggregate : Aggregate) (column : ℕ) (supply : Supply) (w : Work) (stack : Stack) → fitsIn (Group keys aggregate column) supply w stack ≡ true
-    → Each Labelled (stackIn w stack) → groupFits keys aggregate column supply w stack ≡ true
-group-fits keys aggregate column supply w stack t e = rw (t, top-formed column w stack e)
+pub group-fits : (keys : ℕ) (aggregate : Aggregate) (column : ℕ) (supply : Supply) (m : Memory) (stack : Stack) → fitsIn (Group keys aggregate column) supply m stack ≡ true
+    → Each Labelled (stackIn m stack) → groupFits keys aggregate column supply m stack ≡ true
+group-fits keys aggregate column supply m stack t e = rw (t, top-formed column m stack e)
 
 -- ---- the labels that GROUP makes
 
@@ -42,7 +41,7 @@ row-formed : (keys columns : ℕ) (aggregate : Aggregate) (column : ℕ) (group 
 row-formed keys columns aggregate column [] e = tt
 row-formed keys columns aggregate column (first ∷ rest) e =
     each-append Formed (keptCells keys columns first) _ (kept-formed keys columns first (e .0))
-    (composition-formed (aggregateCode aggregate) (length (first ∷ rest)) 0 column (first ∷ rest) zero-well-formed e, tt)
+    (composition-formed (aggregateCode aggregate) (groupSize (first ∷ rest)) 0 column (first ∷ rest) zero-well-formed e, tt)
 
 groups-formed : (keys columns : ℕ) (earlier rows : List Row) → Each LabelledRow rows → Each (Each LabelledRow) (groupsAfter keys columns earlier rows)
 groups-formed keys columns earlier [] e = tt

@@ -6,6 +6,7 @@ mod Labels
 mod Making
 mod Meaning
 mod Moving
+mod Sheets
 mod Walking
 mod Writing
 pub mod Laws

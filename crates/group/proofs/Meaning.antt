@@ -3,15 +3,16 @@ use Prim.Native.Nat.{ℕ, suc, _+_, _≤_, _<_}
 use mathlib.Core.Path.{_≡_, refl, sym, ap, _∙_}
 use mathlib.Core.Bool.{Bool, true, false, cond, and-eq-true-iff}
 use mathlib.Core.List.{List, [], _∷_, map}
+use native.Mathlib.Omega.{arith}
 use lib.Dec.{leb, ltb}
 use lib.ListN.{length, getD}
 use Prim.Native.Nat.{_^_}
 use borrow.Author.Tests.{leb-true, ltb-true, lt-ltb}
 use Rattle.cells.specs.promises.Labelled.{columnFormed, columnFormedAt}
 use Rattle.cells.specs.promises.Search.{says, unfit}
-use Rattle.cells.specs.promises.Work.{Work, cellsIn}
+use Rattle.cells.specs.promises.Work.{Memory, cellsIn, markRoom}
 use Rattle.group.specs.promises.Fits.{groupFits}
-use Rattle.group.specs.promises.Made.{Source, groupRows, Replaced}
+use Rattle.group.specs.promises.Made.{Source, Marks, groupRows, Replaced}
 use Rattle.group.specs.promises.Members.{groupingOf, Allowed, groupedRows}
 use Rattle.group_refusal.specs.promises.Refusals.{forbidsAt, groupSays}
 use Rattle.group.specs.declared.Grouping.{Grouping}
@@ -22,7 +23,7 @@ use Rattle.memory.specs.declared.LiveTable.{LiveTable}
 use Rattle.memory.specs.declared.Stack.{Stack}
 use Rattle.memory.specs.declared.StepAnswer.{StepAnswer}
 use Rattle.memory.specs.declared.StepAnswer.the-variants.{Made}
-use Rattle.memory.specs.promises.Stack.{Ready, stackIn, widthsTo, withTable, liveTable, labelsIn, Inside}
+use Rattle.memory.specs.promises.Stack.{Ready, stackIn, widthsTo, withTable, liveTable, markedIn, labelsIn, Inside, MarksInside}
 use Rattle.memory.specs.promises.Steps.{stepSays, verdict, fits, fitsIn, DoneWhere}
 use Rattle.plan.specs.Group.{checkGroup, grouped}
 use Rattle.plan.specs.Keep.{keptCount}
@@ -35,12 +36,13 @@ use Rattle.plan.specs.declared.Aggregate.{Aggregate}
 use Rattle.plan.specs.declared.Step.{Step}
 use Rattle.plan.specs.declared.Step.the-variants.{Group}
 use Rattle.cells.proofs.LabelledTables.{label-of}
-use Rattle.memory.proofs.Finish.{answered-done, rows-done, fine-parts, or-nothing}
+use Rattle.cells.proofs.Rows.{bare}
+use Rattle.memory.proofs.Finish.{answered-done, made-done, fine-parts, or-nothing}
 use Rattle.memory.proofs.FormedTables.{formed-table}
 use Rattle.memory.proofs.StepAnswer.{the-type}
 use denote.Enum.Declared.{tagOf}
 use types.Run.{OneOf}
-use Rattle.memory.proofs.LiveTables.{fits-parts, Stands, stands, inside, at-is, table-within, grid-is, stack-top, top-width}
+use Rattle.memory.proofs.LiveTables.{fits-parts, Stands, stands, inside, at-is, marks-place, marks-inside, bare-is, table-within, grid-is, stack-top, top-width}
 
 -- ---- labels that an aggregate may be made of
 
@@ -59,6 +61,10 @@ allowed-rows column first (row ∷ rest) e f =
     let t = and-eq-true-iff (wellFormed word) (columnFormed column (map labelsOf rest)) .0 e in
     let u = first-fine (refuseIf (forbidsA word) 32 first column) (firstRow (forbidsAt column) (suc first) (map labelsOf rest)) f in
     ((rw (label-of column row) at (t .0), rw (label-of column row) at (if-fine (forbidsA word) 32 first column (u .0))), allowed-rows column (suc first) rest (t .1) (u .1))
+
+labels-bare : (rows : List Row) → map labelsOf (map bare rows) ≡ map labelsOf rows
+labels-bare [] = refl
+labels-bare (row ∷ rows) = ap (λ (l : List (List ℕ)). labelsOf row ∷ l) (labels-bare rows)
 
 -- what a GROUP that fits finds
 pub record GroupFits (keys column values labels : ℕ) (stack : Stack) (table : LiveTable) (width : ℕ) : Type 0 where
@@ -91,12 +97,15 @@ module _ (keys : ℕ) (aggregate : Aggregate) (column : ℕ) where
         narrow = rw w (leb-true _ 8 (placed .1));
       }
 
-  module _ (supply : Supply) (w : Work) (stack : Stack) {table : LiveTable} {width : ℕ} (t : fitsIn step supply w stack ≡ true)
-      (f : GroupFits keys column (length (w .values)) (length (w .labels)) stack table width) where
+  module _ (supply : Supply) (m : Memory) (stack : Stack) {table : LiveTable} {width : ℕ} (room : markRoom ≤ length (m .marks)) (t : fitsIn step supply m stack ≡ true)
+      (f : GroupFits keys column (length (m .work .values)) (length (m .work .labels)) stack table width) where
     abbrev g : Grouping
     g = groupingOf table keys aggregate column width
 
-    pub source-is : Source (groupingOf table keys aggregate column width) (length (w .values)) (length (w .labels))
+    abbrev labels : List ℕ
+    labels = m .work .labels
+
+    pub source-is : Source (groupingOf table keys aggregate column width) (length (m .work .values)) (length (m .work .labels))
     source-is = record {
       few-rows = f .inside-is .few-rows;
       few-columns = f .inside-is .few-columns;
@@ -108,41 +117,50 @@ module _ (keys : ℕ) (aggregate : Aggregate) (column : ℕ) where
       labels-room = f .inside-is .labels-room;
     }
 
+    marked : MarksInside table (length (m .marks))
+    marked = marks-inside (f .here) (f .is-ready) room
+
+    pub marks-are-there : Marks (groupingOf table keys aggregate column width) (length (m .marks))
+    marks-are-there = record { slot-below = omega (arith, marks-place (f .here), f .here .low); below = marked .below; mark-room = room }
+
+    grids : map labelsOf (markedIn m table) ≡ labelsIn labels table
+    grids = grid-is m (f .inside-is) marked
+
     -- all that is asked, as the code tests it
-    fits-is : groupFits keys aggregate column supply w stack ≡ columnFormedAt (w .labels) (table .at) (table .rows) (table .columns) column
+    fits-is : groupFits keys aggregate column supply m stack ≡ columnFormedAt labels (table .at) (table .rows) (table .columns) column
     fits-is =
         rw (t, table-within (f .inside-is), lt-ltb column (table .columns) (f .below))
-        (ap (λ (s : List Table). columnFormed column (grid (top s))) (stack-top w (f .here)) ∙ ap (columnFormed column) (grid-is w (f .inside-is)))
+        (ap (λ (s : List Table). columnFormed column (grid (top s))) (stack-top m (f .here)) ∙ ap (columnFormed column) grids)
 
-    verdict-is : verdict step supply (stackIn w stack) ≡ checkGroup keys column (labelsIn (w .labels) table)
+    verdict-is : verdict step supply (stackIn m stack) ≡ checkGroup keys column (labelsIn labels table)
     unfolding check tooMany
-    verdict-is = or-nothing _ ∙ ap (λ (s : List Table). check step (length (supply .draws)) (map grid s)) (stack-top w (f .here)) ∙ ap (checkGroup keys column) (grid-is w (f .inside-is))
+    verdict-is = or-nothing _ ∙ ap (λ (s : List Table). check step (length (supply .draws)) (map grid s)) (stack-top m (f .here)) ∙ ap (checkGroup keys column) grids
 
-    made-is : make step supply (stackIn w stack) ≡ record { columns = width; rows = groupRows (groupingOf table keys aggregate column width) (cellsIn w) }
+    made-is : make step supply (stackIn m stack) ≡ record { columns = width; rows = groupRows (groupingOf table keys aggregate column width) m }
     unfolding make grouped
-    made-is = rw (f .width-is) (ap (make step supply) (stack-top w (f .here)))
+    made-is = rw (f .width-is) (ap (make step supply) (stack-top m (f .here)))
 
     -- the labels refuse it, or are none
-    pub refused-group : (answer : StepAnswer) → OneOf (1 ∷ 2 ∷ []) (tagOf the-type answer) → stepSays answer ≡ groupSays (w .labels) table keys column
-        → DoneWhere (groupFits keys aggregate column supply w stack) step supply w stack (record { answer = answer; stack = stack }) w
-    refused-group answer k e = answered-done step supply w stack answer k verdict-is (e ∙ ap (λ (b : Bool). cond b (says (checkGroup keys column (labelsIn (w .labels) table))) unfit) (sym fits-is))
+    pub refused-group : (answer : StepAnswer) → OneOf (1 ∷ 2 ∷ []) (tagOf the-type answer) → stepSays answer ≡ groupSays labels table keys column
+        → DoneWhere (groupFits keys aggregate column supply m stack) step supply m stack (record { answer = answer; stack = stack }) m
+    refused-group answer k e = answered-done step supply m stack answer k verdict-is (e ∙ ap (λ (b : Bool). cond b (says (checkGroup keys column (labelsIn labels table))) unfit) (sym fits-is))
 
-    module _ (e : says fine ≡ groupSays (w .labels) table keys column) where
-      pub allowed : Each (Allowed column) (groupedRows (groupingOf table keys aggregate column width) (cellsIn w))
+    module _ (e : says fine ≡ groupSays labels table keys column) where
+      pub allowed : Each (Allowed column) (groupedRows (groupingOf table keys aggregate column width) (cellsIn (m .work)))
       unfolding checkGroup
       allowed =
           let p = fine-parts _ e in
-          let same = grid-is w (f .inside-is) in
-          let none = first-fine (notClear (inMask keys) 31 0 (labelsIn (w .labels) table)) (firstRow (forbidsAt column) 0 (labelsIn (w .labels) table)) (p .1) .1 in
-          allowed-rows column 0 (groupedRows g (cellsIn w)) (rw same (formed-table (w .labels) table column (p .0) .formed)) (rw same none)
+          let same : map labelsOf (groupedRows g (cellsIn (m .work))) ≡ labelsIn labels table = ap (map labelsOf) (sym (bare-is m (f .inside-is) marked)) ∙ labels-bare (markedIn m table) ∙ grids in
+          let none = first-fine (notClear (inMask keys) 31 0 (labelsIn labels table)) (firstRow (forbidsAt column) 0 (labelsIn labels table)) (p .1) .1 in
+          allowed-rows column 0 (groupedRows g (cellsIn (m .work))) (rw same (formed-table labels table column (p .0) .formed)) (rw same none)
 
-      pub made-group : {after : Work} {count : ℕ} → Replaced (groupingOf table keys aggregate column width) w count after
-          → DoneWhere (groupFits keys aggregate column supply w stack) step supply w stack (record { answer = Made; stack = withTable stack (table .slot) width count }) after
+      pub made-group : {after : Memory} {count : ℕ} → Replaced (groupingOf table keys aggregate column width) m count after
+          → DoneWhere (groupFits keys aggregate column supply m stack) step supply m stack (record { answer = Made; stack = withTable stack (table .slot) width count }) after
       made-group {after} {count} r =
           let p = fine-parts _ e in
-          rows-done step supply w stack (fits-is ∙ p .0) (table .slot) width count (groupRows g (cellsIn w)) after (f .is-ready)
-          (verdict-is ∙ p .1) (f .here .low) (f .here .depth-is) made-is (f .narrow) (r .few) (r .counted) (at-is (f .here)) (r .rows)
+          made-done step supply m stack (fits-is ∙ p .0) (table .slot) width count (groupRows g m) after (f .is-ready) room
+          (verdict-is ∙ p .1) (f .here .low) (f .here .depth-is) made-is (f .narrow) (r .few) (r .counted) (r .wide) (at-is (f .here)) (r .rows) (marks-place (f .here)) (r .marks)
 
 -- arguments that do not fit
-pub misfit-first : (keys : ℕ) (aggregate : Aggregate) (column : ℕ) (supply : Supply) (w : Work) (stack : Stack) → fitsIn (Group keys aggregate column) supply w stack ≡ false → groupFits keys aggregate column supply w stack ≡ false
-misfit-first keys aggregate column supply w stack e = rw e
+pub misfit-first : (keys : ℕ) (aggregate : Aggregate) (column : ℕ) (supply : Supply) (m : Memory) (stack : Stack) → fitsIn (Group keys aggregate column) supply m stack ≡ false → groupFits keys aggregate column supply m stack ≡ false
+misfit-first keys aggregate column supply m stack e = rw e

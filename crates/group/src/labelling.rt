@@ -11,7 +11,7 @@ ghost use Rattle.group.specs.promises.Members as spec;
 use crate::Grouping;
 use label::LabelAnswer;
 
-// The labels of the group that a row leads, each discharged over so many rows, composed in row order.
+// The labels of the group that a row leads, each discharged over so many sheets, composed in row order.
 pub fn group_label(labels: &[u32], next: &[usize; 256], g: Grouping, row: usize, size: u32) -> u32
     requires { ⌜ spec.ColumnInside g (length (now labels)) ⌝ }
     requires { ⌜ (row < g .rows) × Onward (g .rows) (now next) ⌝ }

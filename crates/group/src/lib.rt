@@ -7,9 +7,10 @@ mod partition;
 pub use partition::group;
 use plan::Aggregate;
 
-// A GROUP of the table of so many rows and columns from a place of work memory on, and the width of the rows made.
+// A GROUP of the table of so many rows and columns from a place of work memory on, whose marks begin at another, and the width of the rows made.
 struct Grouping {
     at: usize,
+    marks: usize,
     rows: usize,
     columns: usize,
     keys: u32,

@@ -1,7 +1,8 @@
-// The values of a group's members: its first row, and the later rows that the first row leads, each of which is the
+// The values and the sheets of a group's members: its first row, and the later rows that the first row leads, each of which is the
 // next one of the member before.
-ghost use Prim.Native.Nat.{_<_};
-ghost use lib.ListN.{length};
+ghost use Prim.Native.Nat.{ℕ, _≤_, _<_};
+ghost use mathlib.Core.Path.{_≡_};
+ghost use lib.ListN.{length, getD};
 ghost use Rattle.chains.specs.promises.Chains.{Onward};
 ghost use Rattle.group.specs.promises.Members as spec;
 use crate::Grouping;
@@ -26,4 +27,24 @@ pub fn group_values(values: &[i64], next: &[usize; 256], g: Grouping, row: usize
         other = next[other];
     }
     all
+}
+
+// How many different numbers the members of the group that a row leads have.
+pub fn group_sheets(numbers: &[usize; 256], next: &[usize; 256], rows: usize, row: usize) -> u32
+    requires { ⌜ (rows ≤ 256) × (row < rows) × Onward rows (now next) × (length (now numbers) ≡ 256) ⌝ }
+    requires { ⌜ ((i : ℕ) → i < rows → getD (now numbers) i 0 < 256) ⌝ }
+    ensures { λ r. ⌜ spec.GroupSheets rows (now (numbers .entry)) (now (next .entry)) row r ⌝ }
+{
+    let mut seen = [false; 256];
+    let mut sheets = 0;
+    let mut other = row;
+    while other < rows {
+        let number = numbers[other];
+        if !seen[number] {
+            seen[number] = true;
+            sheets += 1;
+        }
+        other = next[other];
+    }
+    sheets
 }

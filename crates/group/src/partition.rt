@@ -1,6 +1,6 @@
 // "Groups in order of first appearance: keys, then the aggregate".
 ghost use mathlib.Core.Path.{_≡_};
-ghost use Rattle.cells.specs.promises.Work.{work};
+ghost use Rattle.cells.specs.promises.Work.{memoryOf};
 ghost use Rattle.memory.specs.promises.Steps.{DoneWhere};
 ghost use Rattle.plan.specs.Supply.{Supply};
 ghost use Rattle.plan.specs.declared.Step.the-variants.{Group};
@@ -9,6 +9,7 @@ ghost use Rattle.group.specs.promises.Members.{groupingOf};
 use crate::Grouping;
 use crate::made::replace;
 use memory::LiveTable;
+use memory::MARK_ROOM;
 use memory::Stack;
 use memory::StepAnswer;
 use memory::Stepped;
@@ -21,16 +22,23 @@ use widths::Width;
 pub fn group(
     values: &mut [i64],
     labels: &mut [u32],
+    marks: &mut [u64],
     stack: Stack,
     keys: u32,
     aggregate: Aggregate,
     column: usize,
 ) -> Stepped
     ensures { λ r. ⌜ ((supply : Supply) → DoneWhere
-        (groupFits keys aggregate column supply (work (now (values .entry)) (now (labels .entry))) stack)
-        (Group keys aggregate column) supply (work (now (values .entry)) (now (labels .entry))) stack r
-        (work (now (values .exit)) (now (labels .exit)))) ⌝ }
+        (groupFits keys aggregate column supply (memoryOf (now (values .entry)) (now (labels .entry)) (now (marks .entry))) stack)
+        (Group keys aggregate column) supply (memoryOf (now (values .entry)) (now (labels .entry)) (now (marks .entry))) stack r
+        (memoryOf (now (values .exit)) (now (labels .exit)) (now (marks .exit)))) ⌝ }
 {
+    if marks.len() < MARK_ROOM {
+        return Stepped {
+            answer: StepAnswer::DoesNotFit,
+            stack: stack,
+        };
+    }
     let step = Step::Group {
         keys,
         aggregate,
@@ -51,7 +59,7 @@ pub fn group(
         };
     };
     let g = grouping(top, keys, aggregate, column, columns);
-    let count = replace(values, labels, g);
+    let count = replace(values, labels, marks, g);
     Stepped {
         answer: StepAnswer::Made,
         stack: memory::with_table(stack, top.slot, columns, count),
@@ -70,6 +78,7 @@ fn grouping(
 {
     Grouping {
         at: table.at,
+        marks: table.marks,
         rows: table.rows,
         columns: table.columns,
         keys: keys,

@@ -50,6 +50,7 @@ module _ (P : InputVerdict → Type 0) (h : (number place : ℕ) → P (rejected
   refusal-rejects (input.Table place) = h 13 place
   refusal-rejects (input.Value place) = h 14 place
   refusal-rejects (input.Label place) = h 15 place
+  refusal-rejects (input.Sheets place) = h 20 place
   refusal-rejects (input.Plan refusal) = plan-rejects refusal
 
 -- nothing after a refusal counts

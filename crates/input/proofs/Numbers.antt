@@ -17,6 +17,7 @@ input-tells (input.Directory place) = record { number = 12; place = place; tells
 input-tells (input.Table place) = record { number = 13; place = place; tells = λ tell. refl }
 input-tells (input.Value place) = record { number = 14; place = place; tells = λ tell. refl }
 input-tells (input.Label place) = record { number = 15; place = place; tells = λ tell. refl }
+input-tells (input.Sheets place) = record { number = 20; place = place; tells = λ tell. refl }
 input-tells (input.Plan (plan.Length place)) = record { number = 16; place = place; tells = λ tell. refl }
 input-tells (input.Plan (plan.Record place)) = record { number = 17; place = place; tells = λ tell. refl }
 input-tells (input.Plan (plan.Tables place)) = record { number = 18; place = place; tells = λ tell. refl }

@@ -24,6 +24,7 @@ inputTells tell (input.Directory place) = tell 12 place
 inputTells tell (input.Table place) = tell 13 place
 inputTells tell (input.Value place) = tell 14 place
 inputTells tell (input.Label place) = tell 15 place
+inputTells tell (input.Sheets place) = tell 20 place
 inputTells tell (input.Plan refusal) = planTells tell refusal
 
 -- what the answers of the checks say

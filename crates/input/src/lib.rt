@@ -15,14 +15,15 @@ pub enum PlanCheck {
     Refused(PlanRefusal),
 }
 
-// What can be wrong with a container: its length or part count, its directory, a table's header or length, a value, a label, or the plan. The place
-// is a byte offset.
+// What can be wrong with a container: its length or part count, its directory, a table's header or length, a value, a label, a column of sheet
+// numbers, or the plan. The place is a byte offset.
 pub enum InputRefusal {
     Container,
     Directory(usize),
     Table(usize),
     Value(usize),
     Label(usize),
+    Sheets(usize),
     Plan(PlanRefusal),
 }
 

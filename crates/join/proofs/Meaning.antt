@@ -1,28 +1,29 @@
 -- The join in work memory and its meaning. Assumes nothing.
-use Prim.Native.Nat.{ℕ, _+_, _-_}
-use mathlib.Core.Path.{_≡_, ap, ap₂, _∙_}
+use Prim.Native.Nat.{ℕ, _+_, _-_, _≤_}
+use mathlib.Core.Path.{_≡_, sym, ap, ap₂, _∙_}
 use mathlib.Core.Bool.{true, _&&_, and-eq-true-iff}
 use mathlib.Core.List.{List, map}
 use native.Mathlib.Omega.{arith}
 use lib.Dec.{leb, ltb}
 use lib.ListN.{length}
 use borrow.Author.Tests.{leb-true, ltb-true}
-use Rattle.cells.specs.promises.Work.{Work, cellsIn}
+use Rattle.cells.specs.promises.Work.{Memory, markRoom}
 use Rattle.pairs.specs.declared.Side.{Side}
 use Rattle.join.specs.promises.Ends.{sideOf}
-use Rattle.pairs.specs.promises.Pairs.{Sides, width, sideLabels, allRows}
+use Rattle.pairs.specs.promises.Pairs.{Sides, MarksBelow, width, sideLabels, markedRows}
 use Rattle.memory.specs.declared.LiveTable.{LiveTable}
 use Rattle.memory.specs.declared.Stack.{Stack}
-use Rattle.memory.specs.promises.Stack.{Ready, stackIn, widthsTo, liveTable, Inside}
+use Rattle.memory.specs.promises.Stack.{Ready, lastMarks, stackIn, widthsTo, liveTable, markedIn, Inside, MarksInside}
 use Rattle.memory.specs.promises.Steps.{verdict, fits}
-use Rattle.plan.specs.Join.{checkJoin, joined}
+use Rattle.plan.specs.Join.{checkJoin, joinedRows, joined}
 use Rattle.plan.specs.Steps.{check, make, tooMany}
 use Rattle.plan.specs.Supply.{Supply}
-use Rattle.plan.specs.Table.{Table, grid}
+use Rattle.plan.specs.Table.{Row, Table, grid}
 use Rattle.plan.specs.Verdict.{orElse, refuseIf}
 use Rattle.plan.specs.Widths.{enoughTables, columnsExist, madeColumns}
 use Rattle.plan.specs.declared.Step.the-variants.{Join}
-use Rattle.memory.proofs.LiveTables.{fits-parts, Stands, stands, inside, grid-is, stack-two, top-width, second-width}
+use Rattle.memory.proofs.LiveTables.{fits-parts, Stands, stands, inside, marks-place, marks-inside, bare-is, grid-is, stack-two, top-width, second-width}
+use Rattle.pairs.proofs.Marks.{rights-bare}
 
 -- what a join that fits finds
 pub record JoinFits (left right values labels : ℕ) (stack : Stack) (lower upper : LiveTable) (columns : ℕ) : Type 0 where
@@ -67,6 +68,12 @@ join-parts left right tables values labels stack lower upper columns l u t w =
       width-is = w ∙ ap₂ (λ (m n : ℕ). m + (n - 1)) (second-width below) (top-width above);
     }
 
+-- the left table's marks lie in a slot below the last one
+pub lower-marks : {left right values labels marks : ℕ} {stack : Stack} {lower upper : LiveTable} {columns : ℕ} → JoinFits left right values labels stack lower upper columns → markRoom ≤ marks
+    → MarksBelow (sideOf lower left) marks × (lower .marks + 256 ≤ lastMarks)
+lower-marks f room =
+    (record { below = marks-inside (f .below) (f .ready-is) room .below; mark-room = room }, omega (arith, marks-place (f .below), f .below .low))
+
 -- the tables lie within the labels
 pub in-labels : {values labels : ℕ} {left right : Side} → Sides values labels left right → Sides labels labels left right
 in-labels s = record {
@@ -83,21 +90,33 @@ in-labels s = record {
 
 -- ---- what the meaning makes
 
-module _ (left right : ℕ) (supply : Supply) (w : Work) (stack : Stack) {lower upper : LiveTable} {columns : ℕ} (f : JoinFits left right (length (w .values)) (length (w .labels)) stack lower upper columns) where
+module _ (left right : ℕ) (supply : Supply) (m : Memory) (stack : Stack) {lower upper : LiveTable} {columns : ℕ} (room : markRoom ≤ length (m .marks))
+    (f : JoinFits left right (length (m .work .values)) (length (m .work .labels)) stack lower upper columns) where
   abbrev l : Side
   l = sideOf lower left
 
   abbrev r : Side
   r = sideOf upper right
 
-  pub made-is : make (Join left right) supply (stackIn w stack) ≡ record { columns = width l r; rows = allRows (cellsIn w) l r }
-  unfolding make joined
-  made-is = ap (make (Join left right) supply) (stack-two w (f .above) (f .below))
+  marks-lower : MarksInside lower (length (m .marks))
+  marks-lower = marks-inside (f .below) (f .ready-is) room
 
-  pub join-verdict : verdict (Join left right) supply (stackIn w stack)
-      ≡ orElse (checkJoin left right (sideLabels (w .labels) l) (sideLabels (w .labels) r)) (refuseIf (ltb 256 (length (allRows (cellsIn w) l r))) 34 256 0)
+  marks-upper : MarksInside upper (length (m .marks))
+  marks-upper = marks-inside (f .above) (f .ready-is) room
+
+  -- the right rows' marks do not count
+  rows-are : joinedRows left right (markedIn m lower) (markedIn m upper) ≡ markedRows m l r
+  rows-are = sym (rights-bare left right (markedIn m lower) (markedIn m upper)) ∙ ap (joinedRows left right (markedIn m lower)) (bare-is m (f .in-upper) marks-upper)
+
+  pub made-is : make (Join left right) supply (stackIn m stack) ≡ record { columns = width l r; rows = markedRows m l r }
+  unfolding make joined
+  made-is = ap (make (Join left right) supply) (stack-two m (f .above) (f .below)) ∙ ap (λ (rows : List Row). record { columns = width l r; rows = rows }) rows-are
+
+  pub join-verdict : verdict (Join left right) supply (stackIn m stack)
+      ≡ orElse (checkJoin left right (sideLabels (m .work .labels) l) (sideLabels (m .work .labels) r)) (refuseIf (ltb 256 (length (markedRows m l r))) 34 256 0)
   unfolding check tooMany
   join-verdict =
       ap₂ orElse
-      (ap (λ (ts : List Table). check (Join left right) (length (supply .draws)) (map grid ts)) (stack-two w (f .above) (f .below)) ∙ ap₂ (checkJoin left right) (grid-is w (f .in-lower)) (grid-is w (f .in-upper)))
+      (ap (λ (ts : List Table). check (Join left right) (length (supply .draws)) (map grid ts)) (stack-two m (f .above) (f .below))
+      ∙ ap₂ (checkJoin left right) (grid-is m (f .in-lower) marks-lower) (grid-is m (f .in-upper) marks-upper))
       (ap (tooMany (Join left right)) made-is)

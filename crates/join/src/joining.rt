@@ -1,7 +1,9 @@
 // The step: its arguments, the keys' labels, and then the rows.
+ghost use Prim.Native.Nat.{_+_, _≤_};
 ghost use mathlib.Core.Path.{_≡_};
 ghost use lib.ListN.{length};
-ghost use Rattle.cells.specs.promises.Work.{work};
+ghost use Rattle.cells.specs.promises.Work.{memoryOf};
+ghost use Rattle.memory.specs.promises.Stack.{lastMarks};
 ghost use Rattle.memory.specs.promises.Steps.{Done};
 ghost use Rattle.plan.specs.Supply.{Supply};
 ghost use Rattle.plan.specs.declared.Step.the-variants.{Join};
@@ -9,8 +11,10 @@ ghost use Rattle.join.specs.promises.Ends as ends;
 ghost use Rattle.pairs.specs.promises.Pairs as spec;
 use crate::keys::unclear_key;
 use cells::Place;
+use memory::LAST_MARKS;
 use memory::LAST_SLOT;
 use memory::LiveTable;
+use memory::MARK_ROOM;
 use memory::Refusal;
 use memory::Stack;
 use memory::StepAnswer;
@@ -24,13 +28,21 @@ use widths::Width;
 pub fn join(
     values: &mut [i64],
     labels: &mut [u32],
+    marks: &mut [u64],
     stack: Stack,
     left: usize,
     right: usize,
 ) -> Stepped
-    ensures { λ r. ⌜ ((supply : Supply) → Done (Join left right) supply (work (now (values .entry)) (now (labels .entry)))
-        stack r (work (now (values .exit)) (now (labels .exit)))) ⌝ }
+    ensures { λ r. ⌜ ((supply : Supply) → Done (Join left right) supply
+        (memoryOf (now (values .entry)) (now (labels .entry)) (now (marks .entry))) stack r
+        (memoryOf (now (values .exit)) (now (labels .exit)) (now (marks .exit)))) ⌝ }
 {
+    if marks.len() < MARK_ROOM {
+        return Stepped {
+            answer: StepAnswer::DoesNotFit,
+            stack: stack,
+        };
+    }
     let step = Step::Join { left, right };
     let Width::Columns(columns) = memory::fit(values.len(), labels.len(), stack, step) else {
         return Stepped {
@@ -51,7 +63,7 @@ pub fn join(
             answer: StepAnswer::DoesNotFit,
             stack: stack,
         },
-        Place::Nowhere => make_table(values, labels, stack, lower.slot, columns, l, r),
+        Place::Nowhere => make_table(values, labels, marks, stack, lower.slot, columns, l, r),
     }
 }
 
@@ -61,6 +73,7 @@ fn side(table: LiveTable, key: usize) -> Side
 {
     Side {
         at: table.at,
+        marks: table.marks,
         rows: table.rows,
         columns: table.columns,
         key: key,
@@ -71,6 +84,7 @@ fn side(table: LiveTable, key: usize) -> Side
 fn make_table(
     values: &mut [i64],
     labels: &mut [u32],
+    marks: &mut [u64],
     stack: Stack,
     index: usize,
     columns: usize,
@@ -78,10 +92,11 @@ fn make_table(
     right: Side,
 ) -> Stepped
     requires { ⌜ spec.Sides (length (now values)) (length (now labels)) left right × (columns ≡ spec.width left right) ⌝ }
-    ensures { λ r. ⌜ ends.Finished stack index left right (work (now (values .entry)) (now (labels .entry))) r
-        (work (now (values .exit)) (now (labels .exit))) ⌝ }
+    requires { ⌜ spec.MarksBelow left (length (now marks)) × (left .marks + 256 ≤ lastMarks) ⌝ }
+    ensures { λ r. ⌜ ends.Finished stack index left right (memoryOf (now (values .entry)) (now (labels .entry)) (now (marks .entry))) r
+        (memoryOf (now (values .exit)) (now (labels .exit)) (now (marks .exit))) ⌝ }
 {
-    let made = join_rows(values, labels, left, right);
+    let made = join_rows(values, labels, marks, left, right);
     if 256 < made {
         return Stepped {
             answer: StepAnswer::Refused(Refusal::TooMany),
@@ -89,6 +104,7 @@ fn make_table(
         };
     }
     moves::move_cells(values, labels, LAST_SLOT, left.at, made * columns);
+    moves::move_marks(marks, LAST_MARKS, left.marks, made);
     Stepped {
         answer: StepAnswer::Made,
         stack: memory::with_table(stack, index, columns, made),

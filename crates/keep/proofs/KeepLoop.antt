@@ -10,13 +10,13 @@ use lib.IntN.{pos}
 use lib.ListN.{length, getD, take, drop, set, length-append, length-set, length-map}
 use lib.Seq.{getD-take, getD-drop}
 use Rattle.plan.specs.Masks.{inMask}
-use Rattle.cells.specs.promises.Cells.{Wide, rowFrom}
+use Rattle.cells.specs.promises.Cells.{bareRow, bareRows, Wide, rowFrom}
 use Rattle.cells.specs.promises.Work.{Work, work, cellsIn, room, Kept}
 use Rattle.cells.specs.promises.Written.{Written, CellsWritten}
 use Rattle.memory.specs.declared.LiveTable.{LiveTable}
 use Rattle.memory.specs.promises.Stack.{Inside}
 use Rattle.plan.specs.Keep.{keptCount, keptCells, keptRow}
-use Rattle.plan.specs.Table.{Each, Cell, Row, blank, cellAt, rowsOf, flat}
+use Rattle.plan.specs.Table.{Each, Cell, Row, blank, cellAt, flat}
 use Rattle.keep.specs.promises.Keeping.{RowKept}
 use Rattle.cells.proofs.CellLaws.{cells-length, cells-get, cells-set, kept-none, kept-then, kept-set}
 use Rattle.cells.proofs.RowReads.{row-cells, flat-append, flat-length}
@@ -130,12 +130,12 @@ pub record KeepingRows (mask : ℕ) (top : LiveTable) (w₀ w : Work) (from to r
   pub from-is : from ≡ top .at + row * top .columns
   pub to-is : to ≡ top .at + row * keptCount mask (top .columns)
   pub to-le : to ≤ from
-  pub written : CellsWritten w₀ (top .at) (flat (map (keptRow mask (top .columns)) (rowsOf (top .columns) row (drop (top .at) (cellsIn w₀))))) w
+  pub written : CellsWritten w₀ (top .at) (flat (map (keptRow mask (top .columns)) (bareRows (top .columns) row (drop (top .at) (cellsIn w₀))))) w
   pub same : Kept w₀ w
 
 -- the first rows of a table
 abbrev firstRows : LiveTable → Work → ℕ → List Row
-firstRows top w n = rowsOf (top .columns) n (drop (top .at) (cellsIn w))
+firstRows top w n = bareRows (top .columns) n (drop (top .at) (cellsIn w))
 
 module _ {mask : ℕ} {top : LiveTable} {w₀ : Work} (inside : Inside top (length (w₀ .values)) (length (w₀ .labels))) where
   pub rows-begin : KeepingRows mask top w₀ w₀ (top .at) (top .at) 0
@@ -160,7 +160,7 @@ module _ {mask : ℕ} {top : LiveTable} {w₀ : Work} (inside : Inside top (leng
         → KeepingRows mask top w₀ w′ (from + (top .columns)) end (row + 1)
     row-next {end} {w′} k =
         let done = flat (map (keptRow mask (top .columns)) (firstRows top w₀ row)) in
-        let read : Row = record { cells = take (top .columns) (drop from (cellsIn w)) } in
+        let read : Row = bareRow (take (top .columns) (drop from (cellsIn w))) in
         let long : top .at + length done ≡ to
         = ap (λ (n : ℕ). top .at + n) (flat-length (keptCount mask (top .columns)) (map (keptRow mask (top .columns)) (firstRows top w₀ row)) (kept-wide mask (top .columns) (firstRows top w₀ row)) ∙ ap (λ (n : ℕ). n * keptCount mask (top .columns)) (length-map (firstRows top w₀ row) (keptRow mask (top .columns)) ∙ rows-length (top .columns) row (drop (top .at) (cellsIn w₀))))
         ∙ sym (i .to-is) in
@@ -169,7 +169,7 @@ module _ {mask : ℕ} {top : LiveTable} {w₀ : Work} (inside : Inside top (leng
         let more : flat (map (keptRow mask (top .columns)) (firstRows top w₀ (row + 1))) ≡ done ++ keptCells mask (top .columns) read
         = ap (λ (n : ℕ). flat (map (keptRow mask (top .columns)) (firstRows top w₀ n))) (add-one row) ∙ ap (λ (r : List Row). flat (map (keptRow mask (top .columns)) r)) (rows-more (top .columns) row (drop (top .at) (cellsIn w₀)))
         ∙ ap flat (map-append (keptRow mask (top .columns)) (firstRows top w₀ row) _) ∙ flat-append (map (keptRow mask (top .columns)) (firstRows top w₀ row)) _
-        ∙ ap (λ (t : List Cell). done ++ t) (append-nil _ ∙ ap (λ (c : List Cell). keptCells mask (top .columns) (record { cells = c })) (sym cells)) in
+        ∙ ap (λ (t : List Cell). done ++ t) (append-nil _ ∙ ap (λ (c : List Cell). keptCells mask (top .columns) (bareRow c)) (sym cells)) in
         record {
           row-le = omega arith;
           from-is = omega (arith, i .from-is);

@@ -5,7 +5,7 @@ ghost use Rattle.plan.specs.declared.Step.the-variants.{Keep};
 ghost use Rattle.plan.specs.Supply.{Supply};
 ghost use Rattle.cells.specs.promises.Work.{work};
 ghost use Rattle.memory.specs.promises.Stack.{Inside};
-ghost use Rattle.memory.specs.promises.Steps.{Done};
+ghost use Rattle.memory.specs.promises.Steps.{Done, Unmoved};
 ghost use Rattle.keep.specs.promises.Keeping as here;
 use memory::LiveTable;
 use memory::Stack;
@@ -16,8 +16,8 @@ use widths::Width;
 
 // Keeps the columns of the top table that are in the mask.
 pub fn keep(values: &mut [i64], labels: &mut [u32], stack: Stack, mask: u32) -> Stepped
-    ensures { λ r. ⌜ ((supply : Supply) → Done (Keep mask) supply (work (now (values .entry)) (now (labels .entry))) stack r
-        (work (now (values .exit)) (now (labels .exit)))) ⌝ }
+    ensures { λ r. ⌜ ((supply : Supply) → Unmoved (λ before after. Done (Keep mask) supply before stack r after)
+        (work (now (values .entry)) (now (labels .entry))) (work (now (values .exit)) (now (labels .exit)))) ⌝ }
 {
     let step = Step::Keep { mask };
     let Width::Columns(columns) = memory::fit(values.len(), labels.len(), stack, step) else {

@@ -27,13 +27,13 @@ aggregateExists operation = ltb operation 5
 unfoldable pub allowsAggregate : ℕ → ℕ → Bool
 allowsAggregate word operation = bitAt word (16 + operation)
 
--- ".. aggregates: at least the minimum of rows in the group"
-unfoldable pub enoughRows : ℕ → ℕ → Bool
-enoughRows word rows = leb (minimumOf word) rows
+-- ".. aggregates: at least the minimum of rows in the group"; #103: "The group minimum shall count distinct sheets."
+unfoldable pub enoughSheets : ℕ → ℕ → Bool
+enoughSheets word sheets = leb (minimumOf word) sheets
 
--- stage A allows the operation over so many rows
+-- stage A allows the operation over so many sheets
 abbrev pub dischargesA : ℕ → ℕ → ℕ → Bool
-dischargesA word operation rows = allowsAggregate word operation && enoughRows word rows
+dischargesA word operation sheets = allowsAggregate word operation && enoughSheets word sheets
 
 -- Level N has one operation, noise: "Bit 23: noise allowed at N."
 unfoldable pub allowsNoise : ℕ → Bool
@@ -66,17 +66,17 @@ unfoldable pub afterT : ℕ → ℕ → ℕ → ℕ
 afterT word operation digits = cond (not (forbidsT word) && hasT word && allowsTransform word operation digits) (withoutT word) word
 
 unfoldable pub afterA : ℕ → ℕ → ℕ → ℕ
-afterA word operation rows = cond (not (forbidsA word) && hasA word && dischargesA word operation rows) (withoutA word) word
+afterA word operation sheets = cond (not (forbidsA word) && hasA word && dischargesA word operation sheets) (withoutA word) word
 
 unfoldable pub afterN : ℕ → ℕ
 afterN word = cond (not (forbidsN word) && hasN word && allowsNoise word) (withoutN word) word
 
--- a label discharged by an operation of level T, of level A over a group of so many rows, or by noise
+-- a label discharged by an operation of level T, of level A over a group of so many sheets, or by noise
 unfoldable pub transformed : ℕ → ℕ → ℕ → LabelVerdict
 transformed word operation digits = cond (forbidsT word) forbidden (label (afterT word operation digits))
 
 unfoldable pub aggregated : ℕ → ℕ → ℕ → LabelVerdict
-aggregated word operation rows = cond (forbidsA word) forbidden (label (afterA word operation rows))
+aggregated word operation sheets = cond (forbidsA word) forbidden (label (afterA word operation sheets))
 
 unfoldable pub noised : ℕ → LabelVerdict
 noised word = cond (forbidsN word) forbidden (label (afterN word))
@@ -87,8 +87,8 @@ transformAnswer word operation digits =
     cond (wellFormed word) (cond (transformExists operation digits) (transformed word operation digits) (refused 17 0)) (refused 15 0)
 
 unfoldable pub aggregateAnswer : ℕ → ℕ → ℕ → LabelVerdict
-aggregateAnswer word operation rows =
-    cond (wellFormed word) (cond (aggregateExists operation) (aggregated word operation rows) (refused 17 0)) (refused 15 0)
+aggregateAnswer word operation sheets =
+    cond (wellFormed word) (cond (aggregateExists operation) (aggregated word operation sheets) (refused 17 0)) (refused 15 0)
 
 unfoldable pub noiseAnswer : ℕ → LabelVerdict
 noiseAnswer word = cond (wellFormed word) (noised word) (refused 15 0)

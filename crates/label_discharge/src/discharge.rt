@@ -23,9 +23,9 @@ pub fn discharge_transform(word: u32, operation: u32, digits: u32) -> LabelAnswe
     at_t(word, allows_transform(word, operation, digits))
 }
 
-// The label after an operation of level A, 0 count, 1 sum, 2 min, 3 max, 4 avg, over a group of `rows`.
-pub fn discharge_aggregate(word: u32, operation: u32, rows: u32) -> LabelAnswer
-    ensures { λ r. ⌜ labelSays r ≡ spec.aggregateAnswer word operation rows ⌝ }
+// The label after an operation of level A, 0 count, 1 sum, 2 min, 3 max, 4 avg, over a group of so many sheets.
+pub fn discharge_aggregate(word: u32, operation: u32, sheets: u32) -> LabelAnswer
+    ensures { λ r. ⌜ labelSays r ≡ spec.aggregateAnswer word operation sheets ⌝ }
 {
     if !well_formed(word) {
         return LabelAnswer::IllFormed;
@@ -33,7 +33,7 @@ pub fn discharge_aggregate(word: u32, operation: u32, rows: u32) -> LabelAnswer
     if 5 <= operation {
         return LabelAnswer::NoOperation;
     }
-    at_a(word, allows_aggregate(word, operation, rows))
+    at_a(word, allows_aggregate(word, operation, sheets))
 }
 
 // The rule of level T: forbidden under stage H, and stage T goes if it allows the operation.
@@ -79,12 +79,12 @@ fn allows_transform(word: u32, operation: u32, digits: u32) -> bool
     bit(word, 24 + operation) & ((operation != 2) | (field(word, 10, 3) <= digits))
 }
 
-// Whether stage A allows the operation over so many rows.
-fn allows_aggregate(word: u32, operation: u32, rows: u32) -> bool
+// Whether stage A allows the operation over so many sheets.
+fn allows_aggregate(word: u32, operation: u32, sheets: u32) -> bool
     requires { ⌜ operation < 5 ⌝ }
-    ensures { λ r. ⌜ r ≡ spec.dischargesA word operation rows ⌝ }
+    ensures { λ r. ⌜ r ≡ spec.dischargesA word operation sheets ⌝ }
 {
-    bit(word, 16 + operation) & (field(word, 0, 10) <= rows)
+    bit(word, 16 + operation) & (field(word, 0, 10) <= sheets)
 }
 
 // The word with stage T and its fields zero; bits 22, 21, 15, 14 and 13 are zero in a label.

@@ -8,7 +8,7 @@ use lib.Bits.{bitAnd}
 use lib.Dec.{leb, lit<}
 use borrow.Author.Tests.{eqb-true, leb-true, le-leb}
 use Rattle.label_composition.specs.Composition.{merged, digitsWith, transformsBoth, digitsBoth, aggregatesBoth, minimumBoth, noiseBoth, composed}
-use Rattle.label_discharge.specs.Discharge.{isCut, forbidsT, forbidsA, forbidsN, allowsTransform, allowsAggregate, enoughRows, dischargesA, allowsNoise, withoutT, withoutA, withoutN, afterT, afterA, afterN}
+use Rattle.label_discharge.specs.Discharge.{isCut, forbidsT, forbidsA, forbidsN, allowsTransform, allowsAggregate, enoughSheets, dischargesA, allowsNoise, withoutT, withoutA, withoutN, afterT, afterA, afterN}
 use Rattle.label_words.specs.Word.{fieldAt, bitAt, hasH, hasT, hasA, hasN, transformsOf, digitsOf, minimumOf}
 use Rattle.label_laws.proofs.Laws.{fields, either-H, either-T, either-A, either-N, compose-comm, fields-T, fields-A, fields-N, stages-T, stages-A, stages-N}
 use Rattle.label_words.proofs.Packed.{bit-of-field, bit-and}
@@ -60,8 +60,8 @@ both-true : {a b : Bool} → a ≡ true → b ≡ true → (a && b) ≡ true
 both-true e f = rw (e, f)
 
 pub allows-less : AllowsLess
-unfolding allowsTransform allowsAggregate enoughRows allowsNoise
-allows-less a b p = (λ t operation digits h e. transform t operation digits h e, λ t operation rows h e. aggregate t operation rows h e, p .noise)
+unfolding allowsTransform allowsAggregate enoughSheets allowsNoise
+allows-less a b p = (λ t operation digits h e. transform t operation digits h e, λ t operation sheets h e. aggregate t operation sheets h e, p .noise)
   where
     enough : (cut : Bool) (x y k : ℕ) → (cut ≡ true → x ≤ y) → (not cut || leb y k) ≡ true → (not cut || leb x k) ≡ true
     enough true x y k le e = le-leb x k (le-trans (le refl) (leb-true y k e))
@@ -73,10 +73,10 @@ allows-less a b p = (λ t operation digits h e. transform t operation digits h e
         both-true (p .transforms t operation h (s .0))
         (enough (isCut operation) (digitsOf a) (digitsOf b) digits (λ c. p .digits t (rw (eqb-true operation 2 c) at (s .0))) (s .1))
 
-    aggregate : hasA a ≡ true → (operation rows : ℕ) → operation < 5 → dischargesA b operation rows ≡ true → dischargesA a operation rows ≡ true
-    aggregate t operation rows h e =
-        let s = and-eq-true-iff (bitAt b (16 + operation)) (leb (minimumOf b) rows) .0 e in
-        both-true (p .aggregates t operation h (s .0)) (le-leb (minimumOf a) rows (omega (arith, p .minimum t, leb-true (minimumOf b) rows (s .1))))
+    aggregate : hasA a ≡ true → (operation sheets : ℕ) → operation < 5 → dischargesA b operation sheets ≡ true → dischargesA a operation sheets ≡ true
+    aggregate t operation sheets h e =
+        let s = and-eq-true-iff (bitAt b (16 + operation)) (leb (minimumOf b) sheets) .0 e in
+        both-true (p .aggregates t operation h (s .0)) (le-leb (minimumOf a) sheets (omega (arith, p .minimum t, leb-true (minimumOf b) sheets (s .1))))
 
 -- ---- composition
 
@@ -272,6 +272,6 @@ pub discharge-lowers : DischargeLowers
 unfolding afterT afterA afterN
 discharge-lowers label operation = (
   λ digits. lowered-or-not (not (forbidsT label) && hasT label && allowsTransform label operation digits) (without-T label),
-  λ rows. lowered-or-not (not (forbidsA label) && hasA label && dischargesA label operation rows) (without-A label),
+  λ sheets. lowered-or-not (not (forbidsA label) && hasA label && dischargesA label operation sheets) (without-A label),
   lowered-or-not (not (forbidsN label) && hasN label && allowsNoise label) (without-N label),
 )

@@ -32,6 +32,7 @@ abbrev pub all : List Example → Bool
 all [] = true
 all (r ∷ rows) = r .holds && all rows
 
+-- #103: "Example 5 now speaks of 20 and 19 sheets."
 unfoldable pub labelRows : List Example
 labelRows =
     row 1 (eqb (composed 0x20030014 0x2002001E) 0x2002001E)

@@ -33,7 +33,7 @@ ClearBelow = (a : ℕ) → AsStrict 0 a
 abbrev pub AllowsLess : Type 0
 AllowsLess = (a b : ℕ) → AsStrict a b
     → (hasT a ≡ true → (operation digits : ℕ) → operation < 4 → allowsTransform b operation digits ≡ true → allowsTransform a operation digits ≡ true)
-    × (hasA a ≡ true → (operation rows : ℕ) → operation < 5 → dischargesA b operation rows ≡ true → dischargesA a operation rows ≡ true)
+    × (hasA a ≡ true → (operation sheets : ℕ) → operation < 5 → dischargesA b operation sheets ≡ true → dischargesA a operation sheets ≡ true)
     × (hasN a ≡ true → allowsNoise b ≡ true → allowsNoise a ≡ true)
 
 -- "Composition of two labels" is at least as strict as both, and no stricter than any label that is
@@ -46,5 +46,5 @@ ComposedLeast = (a b c : ℕ) → AsStrict a c → AsStrict b c → AsStrict (co
 -- "Discharge" makes a label no stricter
 abbrev pub DischargeLowers : Type 0
 DischargeLowers = (label operation : ℕ)
-    → ((digits : ℕ) → AsStrict (afterT label operation digits) label) × ((rows : ℕ) → AsStrict (afterA label operation rows) label)
+    → ((digits : ℕ) → AsStrict (afterT label operation digits) label) × ((sheets : ℕ) → AsStrict (afterA label operation sheets) label)
     × AsStrict (afterN label) label

@@ -211,9 +211,9 @@ fn transform(word: u32, operation: u32, digits: u32) {
 }
 
 // 0 count, 1 sum, 2 min, 3 max, 4 avg.
-fn aggregate(word: u32, operation: u32, rows: u32) {
-    asked(word, b" aggregate ", operation, b" rows ", rows);
-    answer(label::discharge_aggregate(word, operation, rows));
+fn aggregate(word: u32, operation: u32, sheets: u32) {
+    asked(word, b" aggregate ", operation, b" sheets ", sheets);
+    answer(label::discharge_aggregate(word, operation, sheets));
 }
 
 fn noise(word: u32) {

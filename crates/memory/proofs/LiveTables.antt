@@ -6,18 +6,19 @@ use mathlib.Core.List.{List, _∷_, map}
 use native.Mathlib.Omega.{arith}
 use lib.ListN.{length, getD, drop, length-drop}
 use borrow.Author.Tests.{le-leb, lt-ltb}
+use Rattle.cells.specs.promises.Cells.{gridOf, bareRows, Wide}
 use Rattle.cells.specs.promises.Search.{tableWithin}
-use Rattle.cells.specs.promises.Work.{Work, cellsIn, room}
+use Rattle.cells.specs.promises.Work.{Work, Memory, cellsIn, room, markRoom}
 use Rattle.memory.specs.declared.LiveTable.{LiveTable}
 use Rattle.memory.specs.declared.Stack.{Stack}
-use Rattle.memory.specs.promises.Stack.{ready, Ready, slot, tableIn, tablesTo, stackIn, widthsTo, liveAt, liveTable, rowsIn, tableOf, labelsIn, Inside}
+use Rattle.memory.specs.promises.Stack.{ready, Ready, slot, markSlot, markPart, tableIn, tablesTo, stackIn, widthsTo, liveAt, liveTable, rowsIn, markedIn, tableOf, labelsIn, Inside, MarksInside}
 use Rattle.memory.specs.promises.Steps.{fits}
-use Rattle.plan.specs.Table.{Cell, Table, labelsOf, rowsOf}
+use Rattle.plan.specs.Table.{Cell, Table, labelsOf, rowsOf, Each}
 use Rattle.plan.specs.Widths.{enoughTables, placed}
 use Rattle.plan.specs.declared.Step.{Step}
 use Rattle.cells.proofs.CellLaws.{cells-drop, cells-length, le-within}
-use Rattle.cells.proofs.Rows.{grid-rows}
-use Rattle.memory.proofs.Stacks.{is-ready, fits-slot}
+use Rattle.cells.proofs.Rows.{marked-length, marked-wide, marked-grid, bare, bare-rows}
+use Rattle.memory.proofs.Stacks.{is-ready, fits-slot, marks-count}
 
 -- the parts of what fits
 pub fits-parts : (step : Step) (tables : List ℕ) (values labels : ℕ) (stack : Stack) → fits step tables values labels stack ≡ true
@@ -52,8 +53,14 @@ module _ {stack : Stack} {below : ℕ} {table : LiveTable} (s : Stands stack bel
   columns-are = ap (λ (t : LiveTable). t .columns) (s .is)
 
   -- it is the table of its slot
-  pub table-there : (work : Work) → tableIn work (table .slot) (getD (stack .columns) (table .slot) 0) (getD (stack .rows) (table .slot) 0) ≡ tableOf work table
+  pub table-there : (work : Memory) → tableIn work (table .slot) (getD (stack .columns) (table .slot) 0) (getD (stack .rows) (table .slot) 0) ≡ tableOf work table
   table-there work = sym (ap (tableOf work) (s .is))
+
+  pub marks-place : table .marks ≡ markSlot (table .slot)
+  marks-place = ap (λ (t : LiveTable). t .marks) (s .is)
+
+  pub marks-inside : {values labels marks : ℕ} → Ready values labels stack → markRoom ≤ marks → MarksInside table marks
+  marks-inside r h = record { below = omega (arith, marks-place, s .low, rows-are, r .rows (table .slot) (s .low)); mark-room = h }
 
   pub inside : {values labels : ℕ} → Ready values labels stack → Inside table values labels
   inside r =
@@ -82,15 +89,36 @@ module _ (work : Work) {table : LiveTable} (i : Inside table (length (work .valu
   pub rows-room : table .rows * table .columns ≤ length (drop (table .at) (cellsIn work))
   rows-room = simp length-drop (omega (arith, i .below, cells-room))
 
+-- its rows with their marks
+module _ (memory : Memory) {table : LiveTable} (i : Inside table (length (memory .work .values)) (length (memory .work .labels))) (k : MarksInside table (length (memory .marks))) where
+  abbrev marks : List ℕ
+  marks = markPart (memory .marks) (table .marks) (table .rows)
+
+  pub marks-are-rows : length marks ≡ table .rows
+  marks-are-rows = marks-count (memory .marks) (table .marks) (table .rows) (omega (arith, k .below, k .mark-room))
+
+  pub marked-count : length (markedIn memory table) ≡ table .rows
+  marked-count = marked-length (table .columns) marks (drop (table .at) (cellsIn (memory .work))) ∙ marks-are-rows
+
+  pub marked-are-wide : Each (Wide (table .columns)) (markedIn memory table)
+  marked-are-wide = marked-wide (table .columns) marks (drop (table .at) (cellsIn (memory .work))) (rw marks-are-rows (rows-room (memory .work) i))
+
+  -- they have the cells of the rows without
+  pub bare-is : map bare (markedIn memory table) ≡ rowsIn (memory .work) table
+  bare-is = bare-rows (table .columns) marks (drop (table .at) (cellsIn (memory .work))) ∙ ap (λ (n : ℕ). bareRows (table .columns) n (drop (table .at) (cellsIn (memory .work)))) marks-are-rows
+
   -- the table's labels are those of the slice of labels
-  pub grid-is : map labelsOf (rowsIn work table) ≡ labelsIn (work .labels) table
+  pub grid-is : map labelsOf (markedIn memory table) ≡ labelsIn (memory .work .labels) table
   grid-is =
-      ap (λ (m : List Cell). map labelsOf (rowsOf (table .columns) (table .rows) m)) (sym (cells-drop (table .at) (work .values) (work .labels)))
-      ∙ grid-rows (table .columns) (table .rows) (drop (table .at) (work .values)) (drop (table .at) (work .labels)) (simp length-drop (omega (arith, i .below, i .values-room)))
+      let vs = memory .work .values in
+      let ls = memory .work .labels in
+      ap (λ (m : List Cell). map labelsOf (rowsOf (table .columns) marks m)) (sym (cells-drop (table .at) vs ls))
+      ∙ marked-grid (table .columns) marks (drop (table .at) vs) (drop (table .at) ls) (rw marks-are-rows (simp length-drop (omega (arith, i .below, i .values-room))))
+      ∙ ap (λ (n : ℕ). gridOf (table .columns) n (drop (table .at) ls)) marks-are-rows
 
 -- ---- the tables on top of the stack
 
-module _ (work : Work) {stack : Stack} {top : LiveTable} (s : Stands stack 0 top) where
+module _ (work : Memory) {stack : Stack} {top : LiveTable} (s : Stands stack 0 top) where
   pub stack-top : stackIn work stack ≡ tableOf work top ∷ tablesTo work stack (top .slot)
   stack-top =
       let e : stack .depth ≡ suc (top .slot) = omega (arith, s .depth-is) in

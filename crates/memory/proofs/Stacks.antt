@@ -10,11 +10,11 @@ use lib.Dec.{leb, eqb}
 use lib.ListN.{length, getD, take, drop, length-drop}
 use lib.Seq.{length-take-le, drop-at, take-add, take-take}
 use borrow.Author.Tests.{leb-true, le-leb, lt-ltb, ne-eqb}
-use Rattle.cells.specs.promises.Work.{Work, cellsIn, room}
-use Rattle.memory.specs.promises.Stack.{ready, Ready, slot, tableIn, tablesTo, stackIn, widthsTo, replaced, withTable}
+use Rattle.cells.specs.promises.Work.{Work, Memory, cellsIn, room, markRoom}
+use Rattle.memory.specs.promises.Stack.{ready, Ready, slot, markSlot, markPart, tableIn, tablesTo, stackIn, widthsTo, replaced, withTable}
 use Rattle.memory.specs.declared.Stack.{Stack}
-use Rattle.plan.specs.Table.{Cell, Row, rowsOf}
-use Rattle.cells.proofs.Rows.{rows-same}
+use Rattle.plan.specs.Table.{Row, rowsOf}
+use Rattle.cells.proofs.Rows.{marked-same}
 
 -- ---- a stack that fits
 
@@ -103,70 +103,101 @@ module _ (values labels : ℕ) (stack : Stack) (index columns rows : ℕ) (r : R
 -- ---- the tables below a slot
 
 -- a part of a list lies in a longer front of it
-pub part-of-front : (b k n : ℕ) (l : List Cell) → b + k ≤ n → n ≤ length l → take k (drop b (take n l)) ≡ take k (drop b l)
-part-of-front b k n l h m =
+pub part-of-front : {A : Type 0} (b k n : ℕ) (l : List A) → b + k ≤ n → n ≤ length l → take k (drop b (take n l)) ≡ take k (drop b l)
+part-of-front {A} b k n l h m =
     let e : b + (n - b) ≡ n = omega arith in
     let d : drop b (take n l) ≡ take (n - b) (drop b l)
     = ap (λ (i : ℕ). drop b (take i l)) (sym e) ∙ ap (drop b) (take-add b (n - b) l) ∙ drop-at (take b l) (take (n - b) (drop b l)) b (length-take-le b l (omega arith)) in
     ap (take k) d ∙ take-take k (n - b) (drop b l) (omega arith)
 
+-- a part of a list is as it was, where a longer front of it is
+pub part-still : {A : Type 0} (before after : List A) (at count n : ℕ) → at + count ≤ n → n ≤ length before → length after ≡ length before
+    → take n after ≡ take n before → take count (drop at after) ≡ take count (drop at before)
+part-still {A} before after at count n h m long e =
+    sym (part-of-front at count n after h (omega arith)) ∙ ap (λ (l : List A). take count (drop at l)) e ∙ part-of-front at count n before h m
+
 -- a table's cells fit its slot
 pub fits-slot : (rows columns : ℕ) → rows ≤ 256 → columns ≤ 8 → rows * columns ≤ 2048
 fits-slot rows columns r c = mul-le-mul r c
 
-module _ (before after : Work) (room-is : room ≤ length (cellsIn before)) (same-length : length (cellsIn after) ≡ length (cellsIn before)) where
-  -- a table below a place from which on memory was changed is as it was
-  pub rows-still : (at n columns rows : ℕ) → at + rows * columns ≤ n → n ≤ room → take n (cellsIn after) ≡ take n (cellsIn before)
-      → rowsOf columns rows (drop at (cellsIn after)) ≡ rowsOf columns rows (drop at (cellsIn before))
-  rows-still at n columns rows h m e =
-      let cells : take (rows * columns) (drop at (cellsIn after)) ≡ take (rows * columns) (drop at (cellsIn before))
-      = sym (part-of-front at (rows * columns) n (cellsIn after) h (omega arith)) ∙ ap (λ (l : List Cell). take (rows * columns) (drop at l)) e
-      ∙ part-of-front at (rows * columns) n (cellsIn before) h (omega arith) in
-      rows-same columns rows (drop at (cellsIn after)) (drop at (cellsIn before)) (simp length-drop (omega arith)) (simp length-drop (omega arith)) cells
+-- so many marks
+pub marks-count : (marks : List ℕ) (at rows : ℕ) → at + rows ≤ length marks → length (markPart marks at rows) ≡ rows
+marks-count marks at rows h = length-take-le rows (drop at marks) (simp length-drop (omega arith))
 
-  pub table-same : (index n columns rows : ℕ) → slot index + rows * columns ≤ n → n ≤ room → take n (cellsIn after) ≡ take n (cellsIn before)
+module _ (before after : Work) (room-is : room ≤ length (cellsIn before)) (same-length : length (cellsIn after) ≡ length (cellsIn before)) where
+  -- a table below a place from which on memory was changed is as it was, whatever its marks
+  pub rows-still : (at n columns : ℕ) (marks : List ℕ) → at + length marks * columns ≤ n → n ≤ room → take n (cellsIn after) ≡ take n (cellsIn before)
+      → rowsOf columns marks (drop at (cellsIn after)) ≡ rowsOf columns marks (drop at (cellsIn before))
+  rows-still at n columns marks h m e =
+      marked-same columns marks (drop at (cellsIn after)) (drop at (cellsIn before)) (simp length-drop (omega arith)) (simp length-drop (omega arith))
+      (part-still (cellsIn before) (cellsIn after) at (length marks * columns) n h (omega arith) same-length e)
+
+-- memory with both kinds of slices long enough, and as long afterwards
+pub record Lengths (before after : Memory) : Type 0 where
+  pub cells-room : room ≤ length (cellsIn (before .work))
+  pub cells-long : length (cellsIn (after .work)) ≡ length (cellsIn (before .work))
+  pub marks-room : markRoom ≤ length (before .marks)
+  pub marks-long : length (after .marks) ≡ length (before .marks)
+
+-- the slots below one are as they were
+pub record Below (index : ℕ) (before after : Memory) : Type 0 where
+  pub cells : take (slot index) (cellsIn (after .work)) ≡ take (slot index) (cellsIn (before .work))
+  pub marks : take (markSlot index) (after .marks) ≡ take (markSlot index) (before .marks)
+
+module _ (before after : Memory) (long : Lengths before after) where
+  pub table-same : (index n columns rows : ℕ) → rows ≤ 256 → columns ≤ 8 → index < n → n ≤ 4 → Below n before after
       → tableIn after index columns rows ≡ tableIn before index columns rows
-  table-same index n columns rows h m e = λ i. record { columns = columns; rows = rows-still (slot index) n columns rows h m e i }
+  table-same index n columns rows few narrow h m low =
+      let cells = fits-slot rows columns few narrow in
+      let marks = part-still (before .marks) (after .marks) (markSlot index) rows (markSlot n) (omega arith) (omega (arith, long .marks-room)) (long .marks-long) (low .marks) in
+      let count = marks-count (before .marks) (markSlot index) rows (omega (arith, long .marks-room)) in
+      let read = rows-still (before .work) (after .work) (long .cells-room) (long .cells-long) (slot index) (slot n) columns (markPart (before .marks) (markSlot index) rows)
+      (rw count (omega arith)) (omega arith) (low .cells) in
+      let all = ap (λ (m : List ℕ). rowsOf columns m (drop (slot index) (cellsIn (after .work)))) marks ∙ read in
+      λ i. record { columns = columns; rows = all i }
+
+  pub below-less : (index n : ℕ) → index ≤ n → Below n before after → Below index before after
+  below-less index n h low = record {
+    cells = sym (take-take (slot index) (slot n) (cellsIn (after .work)) (omega arith)) ∙ ap (take (slot index)) (low .cells)
+        ∙ take-take (slot index) (slot n) (cellsIn (before .work)) (omega arith);
+    marks = sym (take-take (markSlot index) (markSlot n) (after .marks) (omega arith)) ∙ ap (take (markSlot index)) (low .marks)
+        ∙ take-take (markSlot index) (markSlot n) (before .marks) (omega arith);
+  }
 
   pub tables-same : {values labels : ℕ} (stack other : Stack) → Ready values labels stack → (n : ℕ) → n ≤ 3
       → ((i : ℕ) → i < n → getD (other .rows) i 0 ≡ getD (stack .rows) i 0) → ((i : ℕ) → i < n → getD (other .columns) i 0 ≡ getD (stack .columns) i 0)
-      → take (slot n) (cellsIn after) ≡ take (slot n) (cellsIn before) → tablesTo after other n ≡ tablesTo before stack n
-  tables-same stack other k zero h r c e = refl
-  tables-same stack other k (suc n) h r c e =
-      let rows = getD (stack .rows) n 0 in
-      let columns = getD (stack .columns) n 0 in
-      let cells = fits-slot rows columns (k .rows n h) (k .columns n h) in
-      let below : take (slot n) (cellsIn after) ≡ take (slot n) (cellsIn before)
-      = sym (take-take (slot n) (slot (suc n)) (cellsIn after) (omega arith)) ∙ ap (take (slot n)) e ∙ take-take (slot n) (slot (suc n)) (cellsIn before) (omega arith) in
-      ap₂ _∷_ (ap₂ (tableIn after n) (c n (omega arith)) (r n (omega arith)) ∙ table-same n (slot (suc n)) columns rows (omega arith) (omega arith) e)
-      (tables-same stack other k n (omega arith) (λ i l. r i (omega arith)) (λ i l. c i (omega arith)) below)
+      → Below n before after → tablesTo after other n ≡ tablesTo before stack n
+  tables-same stack other k zero h r c low = refl
+  tables-same stack other k (suc n) h r c low =
+      ap₂ _∷_ (ap₂ (tableIn after n) (c n (omega arith)) (r n (omega arith))
+      ∙ table-same n (suc n) (getD (stack .columns) n 0) (getD (stack .rows) n 0) (k .rows n h) (k .columns n h) (omega arith) (omega arith) low)
+      (tables-same stack other k n (omega arith) (λ i l. r i (omega arith)) (λ i l. c i (omega arith)) (below-less n (suc n) (omega arith) low))
 
-drop-tables : (work : Work) (stack : Stack) (n k : ℕ) → drop k (tablesTo work stack (n + k)) ≡ tablesTo work stack n
+drop-tables : (work : Memory) (stack : Stack) (n k : ℕ) → drop k (tablesTo work stack (n + k)) ≡ tablesTo work stack n
 drop-tables work stack n zero = ap (tablesTo work stack) (add-zero n)
 drop-tables work stack n (suc k) = ap (λ (i : ℕ). drop (suc k) (tablesTo work stack i)) (add-suc n k) ∙ drop-tables work stack n k
 
 -- a table made in a slot, memory below which is as it was: it stands on what is left of the stack
-pub stack-with : {values labels : ℕ} (before after : Work) (stack : Stack) (index taken columns rows : ℕ) (made : List Row) → Ready values labels stack → room ≤ length (cellsIn before)
-    → length (cellsIn after) ≡ length (cellsIn before) → index < 3 → stack .depth ≡ index + taken → take (slot index) (cellsIn after) ≡ take (slot index) (cellsIn before)
-    → rowsOf columns rows (drop (slot index) (cellsIn after)) ≡ made
+pub stack-with : {values labels : ℕ} (before after : Memory) (stack : Stack) (index taken columns rows : ℕ) (made : List Row) → Ready values labels stack
+    → Lengths before after → index < 3 → stack .depth ≡ index + taken → Below index before after
+    → tableIn after index columns rows ≡ record { columns = columns; rows = made }
     → stackIn after (withTable stack index columns rows) ≡ record { columns = columns; rows = made } ∷ drop taken (stackIn before stack)
 unfolding withTable
-stack-with before after stack index taken columns rows made ready room-is same h depth below read =
+stack-with before after stack index taken columns rows made ready long h depth below read =
     let s : Stack = record { depth = suc index; rows = replaced (stack .rows) index rows; columns = replaced (stack .columns) index columns } in
     rw (lt-ltb index 3 h) (
     let table : tableIn after index (getD (s .columns) index 0) (getD (s .rows) index 0) ≡ record { columns = columns; rows = made }
-    = ap₂ (tableIn after index) (replaced-there (stack .columns) index columns h) (replaced-there (stack .rows) index rows h)
-    ∙ (λ i. record { columns = columns; rows = read i }) in
+    = ap₂ (tableIn after index) (replaced-there (stack .columns) index columns h) (replaced-there (stack .rows) index rows h) ∙ read in
     let lower : tablesTo after s index ≡ tablesTo before stack index
-    = tables-same before after room-is same stack s ready index (omega arith) (λ i l. replaced-other (stack .rows) index rows i (omega arith) (omega arith))
+    = tables-same before after long stack s ready index (omega arith) (λ i l. replaced-other (stack .rows) index rows i (omega arith) (omega arith))
     (λ i l. replaced-other (stack .columns) index columns i (omega arith) (omega arith)) below in
     ap₂ _∷_ table (lower ∙ sym (ap (λ (n : ℕ). drop taken (tablesTo before stack n)) depth ∙ drop-tables before stack index taken)))
 
 -- the widths on the stack are the tables' columns
-pub widths-are : (work : Work) (stack : Stack) (n : ℕ) → map (λ table. table .columns) (tablesTo work stack n) ≡ widthsTo stack n
+pub widths-are : (work : Memory) (stack : Stack) (n : ℕ) → map (λ table. table .columns) (tablesTo work stack n) ≡ widthsTo stack n
 widths-are work stack zero = refl
 widths-are work stack (suc n) = ap (λ (rest : List ℕ). getD (stack .columns) n 0 ∷ rest) (widths-are work stack n)
 
-pub stack-length : (work : Work) (stack : Stack) (n : ℕ) → length (tablesTo work stack n) ≡ n
+pub stack-length : (work : Memory) (stack : Stack) (n : ℕ) → length (tablesTo work stack n) ≡ n
 stack-length work stack zero = refl
 stack-length work stack (suc n) = ap suc (stack-length work stack n)

@@ -1,5 +1,6 @@
 // Work memory: two lent slices, values and labels, of which the first 8,192 elements are used as four slots of 2,048 cells. The
-// table at place i of the stack stands in slot i, row by row; the last slot is for a table that is being made.
+// table at place i of the stack stands in slot i, row by row; the last slot is for a table that is being made. A third slice has the marks
+// of the rows, four slots of 256.
 mod fitting;
 mod live;
 
@@ -16,6 +17,13 @@ pub const LAST_SLOT: usize = 6144;
 
 pub const ROOM: usize = 8192;
 
+// The same of the marks.
+pub const MARK_SLOT: usize = 256;
+
+pub const LAST_MARKS: usize = 768;
+
+pub const MARK_ROOM: usize = 1024;
+
 // The live tables: how many there are, and the rows and columns of each, the first pushed first.
 pub struct Stack {
     pub depth: usize,
@@ -23,10 +31,11 @@ pub struct Stack {
     pub columns: [usize; 3],
 }
 
-// A live table: its slot, the place at which that begins, and its rows and columns.
+// A live table: its slot, the places at which that and its marks begin, and its rows and columns.
 pub struct LiveTable {
     pub slot: usize,
     pub at: usize,
+    pub marks: usize,
     pub rows: usize,
     pub columns: usize,
 }

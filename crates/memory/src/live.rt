@@ -3,6 +3,7 @@ ghost use mathlib.Core.Path.{_≡_};
 ghost use mathlib.Core.Bool.{cond};
 ghost use Rattle.memory.specs.promises.Stack as spec;
 use super::LiveTable;
+use super::MARK_SLOT;
 use super::ROOM;
 use super::SLOT;
 use super::Stack;
@@ -52,6 +53,7 @@ pub fn live_table(stack: Stack, below: usize) -> LiveTable
     LiveTable {
         slot: slot,
         at: SLOT * slot,
+        marks: MARK_SLOT * slot,
         rows: rows[slot],
         columns: columns[slot],
     }
@@ -63,6 +65,7 @@ fn no_table() -> LiveTable
     LiveTable {
         slot: 0,
         at: 0,
+        marks: 0,
         rows: 0,
         columns: 0,
     }

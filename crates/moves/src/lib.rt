@@ -1,6 +1,7 @@
-// Moves of cells in work memory.
+// Moves of cells and of marks in work memory.
 ghost use mathlib.Core.Path.{_≡_};
 ghost use mathlib.Core.Bool.{cond};
+ghost use lib.ListN.{length};
 ghost use Rattle.cells.specs.promises.Cells as spec;
 use cells::within;
 
@@ -27,6 +28,22 @@ pub fn move_cells(
     while i < count {
         values[to + i] = values[from + i];
         labels[to + i] = labels[from + i];
+        i += 1;
+    }
+    true
+}
+
+// The same of marks.
+pub fn move_marks(marks: &mut [u64], from: usize, to: usize, count: usize) -> bool
+    ensures { λ r. ⌜ r ≡ spec.canMove from to count (length (now (marks .entry))) ⌝ }
+    ensures { λ r. ⌜ now (marks .exit) ≡ cond r (spec.moved from to count (now (marks .entry))) (now (marks .entry)) ⌝ }
+{
+    if !can_move(from, to, count, marks.len()) {
+        return false;
+    }
+    let mut i = 0;
+    while i < count {
+        marks[to + i] = marks[from + i];
         i += 1;
     }
     true

@@ -6,7 +6,7 @@ use mathlib.Core.List.{List, [], _∷_}
 use lib.IntN.{ℤ}
 use lib.ListN.{drop}
 use Rattle.cells.specs.promises.Labelled.{Formed, LabelledRow, Labelled}
-use Rattle.cells.specs.promises.Work.{Work}
+use Rattle.cells.specs.promises.Work.{Memory}
 use Rattle.memory.specs.declared.Stack.{Stack}
 use Rattle.memory.specs.promises.Stack.{stackIn}
 use Rattle.memory.specs.promises.Steps.{fitsIn}
@@ -21,9 +21,9 @@ use Rattle.memory.proofs.TopLabels.{top-formed}
 use Rattle.plan.proofs.SenseShape.{each-append}
 
 -- live tables whose labels are well-formed ask no more than every step
-pub noise-fits : (column : ℕ) (supply : Supply) (w : Work) (stack : Stack) → fitsIn (Noise column) supply w stack ≡ true
-    → Each Labelled (stackIn w stack) → noiseFits column supply w stack ≡ true
-noise-fits column supply w stack t e = rw (t, top-formed column w stack e)
+pub noise-fits : (column : ℕ) (supply : Supply) (m : Memory) (stack : Stack) → fitsIn (Noise column) supply m stack ≡ true
+    → Each Labelled (stackIn m stack) → noiseFits column supply m stack ≡ true
+noise-fits column supply m stack t e = rw (t, top-formed column m stack e)
 
 -- ---- the labels that NOISE makes
 

@@ -26,7 +26,7 @@ use Rattle.extension.proofs.Rows.{extendedFrom}
 abbrev pub newOf : ℕ → List ℤ → ℕ → Row → Cell
 newOf column draws i row = noisyCell (cellAt column row) (getD draws i (pos 0))
 
-noisy-is : (column : ℕ) (draws : List ℤ) (i : ℕ) (rows : List Row) → noisyRows column (drop i draws) rows ≡ extendedFrom (newOf column draws) i rows
+pub noisy-is : (column : ℕ) (draws : List ℤ) (i : ℕ) (rows : List Row) → noisyRows column (drop i draws) rows ≡ extendedFrom (newOf column draws) i rows
 noisy-is column draws i [] = refl
 noisy-is column draws i (row ∷ rest) =
     let here : getD (drop i draws) 0 (pos 0) ≡ getD draws i (pos 0) = getD-drop i draws 0 (pos 0) ∙ ap (λ (k : ℕ). getD draws k (pos 0)) (add-zero i) in

@@ -26,7 +26,7 @@ pub fn make_table(
 )
     requires { ⌜ Inside top (length (now values)) (length (now labels)) × (top .columns + 1 ≤ 8) ⌝ }
     requires { ⌜ (column < top .columns) × (top .rows ≤ length (now draws)) × (columnFormed column (labelsIn (now labels) top) ≡ true) ⌝ }
-    ensures { λ r. ⌜ RowsAt (top .at) (top .columns + 1) (top .rows)
+    ensures { λ r. ⌜ RowsAt (top .at)
         (spec.rowsMade top column (now (draws .entry)) (work (now (values .entry)) (now (labels .entry))))
         (work (now (values .entry)) (now (labels .entry))) (work (now (values .exit)) (now (labels .exit))) ⌝ }
 {

@@ -1,7 +1,7 @@
 // "NOISE .. appends a column: each row's value plus the next number from a lent list of signed draws."
 ghost use mathlib.Core.List.{List};
 ghost use Rattle.cells.specs.promises.Work.{work};
-ghost use Rattle.memory.specs.promises.Steps.{DoneWhere};
+ghost use Rattle.memory.specs.promises.Steps.{DoneWhere, Unmoved};
 ghost use Rattle.plan.specs.Supply.{supplied};
 ghost use Rattle.plan.specs.Table.{Table};
 ghost use Rattle.plan.specs.declared.Step.the-variants.{Noise};
@@ -22,10 +22,10 @@ pub fn noise(
     stack: Stack,
     column: usize,
 ) -> Stepped
-    ensures { λ r. ⌜ ((tables : List Table) → DoneWhere
-        (noiseFits column (supplied tables (now (draws .entry))) (work (now (values .entry)) (now (labels .entry))) stack) (Noise column)
-        (supplied tables (now (draws .entry))) (work (now (values .entry)) (now (labels .entry))) stack r
-        (work (now (values .exit)) (now (labels .exit)))) ⌝ }
+    ensures { λ r. ⌜ ((tables : List Table)
+        → Unmoved (λ before after. DoneWhere (noiseFits column (supplied tables (now (draws .entry))) before stack) (Noise column)
+        (supplied tables (now (draws .entry))) before stack r after)
+        (work (now (values .entry)) (now (labels .entry))) (work (now (values .exit)) (now (labels .exit)))) ⌝ }
 {
     let step = Step::Noise { column };
     let Width::Columns(columns) = memory::fit(values.len(), labels.len(), stack, step) else {

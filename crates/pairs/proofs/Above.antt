@@ -7,7 +7,7 @@ use native.Mathlib.Omega.{arith}
 use lib.IntN.{ℤ}
 use lib.ListN.{length, take, drop, length-append, length-drop}
 use lib.Seq.{length-take-le, drop-at, take-add, take-take, drop-drop}
-use Rattle.cells.specs.promises.Cells.{cellsOf}
+use Rattle.cells.specs.promises.Cells.{cellsOf, bareRow}
 use Rattle.cells.specs.promises.Work.{Work, work, cellsIn, room, Kept}
 use Rattle.cells.specs.promises.Written.{Written, Put}
 use Rattle.plan.specs.Join.{joinedRow}
@@ -45,7 +45,7 @@ module _ (memory : List Cell) (long : room ≤ length memory) where
   row-copied : {first second third : List Cell} (n m b at other to : ℕ) → b < m → at + n ≤ to → other + m ≤ to → to + (n + (m - 1)) ≤ room
       → Written memory to (take n (drop at memory)) first → Written first (to + n) (take b (drop other first)) second
       → Written second (to + n + b) (take (m - b - 1) (drop (other + b + 1) second)) third
-      → Written memory to (joinedRow b (record { cells = take n (drop at memory) }) (record { cells = take m (drop other memory) }) .cells) third
+      → Written memory to (joinedRow b (bareRow (take n (drop at memory))) (bareRow (take m (drop other memory))) .cells) third
   row-copied n m b at other to k h g r w₁ u₂ u₃ =
       let X = take n (drop at memory) in
       let Y = take b (drop other memory) in
@@ -68,7 +68,7 @@ module _ (memory : List Cell) (long : room ≤ length memory) where
 pub row-moved : (w : Work) {us us₂ us₃ : List ℤ} {ks ks₂ ks₃ : List ℕ} {p q r : Bool} (n m b at other to : ℕ) → room ≤ length (w .values) → room ≤ length (w .labels)
     → b < m → at + n ≤ to → other + m ≤ to → to + (n + (m - 1)) ≤ room
     → AfterMove at to n w p us ks → AfterMove other (to + n) b (work us ks) q us₂ ks₂ → AfterMove (other + b + 1) (to + n + b) (m - b - 1) (work us₂ ks₂) r us₃ ks₃
-    → Put to (joinedRow b (record { cells = take n (drop at (cellsIn w)) }) (record { cells = take m (drop other (cellsIn w)) }) .cells) w (work us₃ ks₃)
+    → Put to (joinedRow b (bareRow (take n (drop at (cellsIn w)))) (bareRow (take m (drop other (cellsIn w)))) .cells) w (work us₃ ks₃)
 row-moved w {us} {us₂} {us₃} {ks} {ks₂} {ks₃} n m b at other to v l k h g reach first second third =
     let put₁ = put-up w at to n h (omega arith) v l first in
     let v₁ : room ≤ length us = omega (arith, put₁ .kept .as-many-values) in

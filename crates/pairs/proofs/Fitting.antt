@@ -5,12 +5,13 @@ use mathlib.Core.Bool.{true, _&&_, and-eq-true-iff}
 use native.Mathlib.Omega.{arith}
 use lib.Dec.{leb, ltb}
 use borrow.Author.Tests.{le-leb, leb-true, lt-ltb, ltb-true}
+use Rattle.cells.specs.promises.Cells.{within}
 use Rattle.cells.specs.promises.Search.{tableWithin}
-use Rattle.cells.specs.promises.Work.{room}
-use Rattle.memory.specs.promises.Stack.{lastSlot}
+use Rattle.cells.specs.promises.Work.{room, markRoom}
+use Rattle.memory.specs.promises.Stack.{lastSlot, lastMarks}
 use Rattle.pairs.specs.declared.Side.{Side}
-use Rattle.pairs.specs.promises.Pairs.{Sides, sideFits, sidesFit}
-use Rattle.cells.proofs.CellLaws.{le-within}
+use Rattle.pairs.specs.promises.Pairs.{Sides, sideFits, sidesFit, MarksBelow, marksFit}
+use Rattle.cells.proofs.CellLaws.{within-le, le-within}
 use Rattle.cells.proofs.Searching.{within-table}
 
 pub side-parts : (side : Side) → sideFits side ≡ true → (side .rows ≤ 256) × (side .columns ≤ 8) × (side .at + side .rows * side .columns ≤ lastSlot) × (side .key < side .columns)
@@ -54,3 +55,13 @@ sides-fit values labels left right s = rw (
   le-leb room values (s .values-room),
   le-leb room labels (s .labels-room),
 )
+
+pub to-marks-below : (marks : ℕ) (left : Side) → marksFit marks left ≡ true → MarksBelow left marks
+unfolding marksFit
+to-marks-below marks left e =
+    let both = and-eq-true-iff (within (left .marks) (left .rows) lastMarks) (leb markRoom marks) .0 e in
+    record { below = within-le (left .marks) (left .rows) lastMarks (both .0); mark-room = leb-true markRoom marks (both .1) }
+
+pub marks-fit : (marks : ℕ) (left : Side) → MarksBelow left marks → marksFit marks left ≡ true
+unfolding marksFit
+marks-fit marks left b = rw (le-within (left .marks) (left .rows) lastMarks (b .below), le-leb markRoom marks (b .mark-room))

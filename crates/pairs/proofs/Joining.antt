@@ -10,10 +10,10 @@ use borrow.Author.Tests.{lt-ltb}
 use Rattle.plan.specs.Join.{matches, joinedRow, joinedTo, joinedRows, joined}
 use Rattle.plan.specs.Steps.{make}
 use Rattle.plan.specs.Supply.{supplied}
-use Rattle.plan.specs.Table.{Cell, Row, Table, rowsOf, Each}
+use Rattle.plan.specs.Table.{Cell, Row, Table, Each}
 use Rattle.plan.specs.Widths.{columnsExist}
 use Rattle.plan.specs.declared.Step.the-variants.{Join}
-use Rattle.cells.specs.promises.Cells.{Wide}
+use Rattle.cells.specs.promises.Cells.{bareRow, bareRows, Wide}
 use Rattle.cells.proofs.Rows.{rows-more}
 use Rattle.plan.proofs.SenseShape.{made-shaped}
 
@@ -34,10 +34,10 @@ module _ (a b : ℕ) where
       ap (λ (rest : List Row). joinedTo a b x rights ++ rest) (rows-add rights xs ys) ∙ sym (append-assoc (joinedTo a b x rights) (joinedRows a b xs rights) (joinedRows a b ys rights))
 
 module _ (made : List Row → List Row) (add : (xs ys : List Row) → made (xs ++ ys) ≡ made xs ++ made ys) (w : ℕ) (cells : List Cell) where
-  pub row-more : (n : ℕ) → made (rowsOf w (suc n) cells) ≡ made (rowsOf w n cells) ++ made (record { cells = take w (drop (n * w) cells) } ∷ [])
-  row-more n = ap made (rows-more w n cells) ∙ add (rowsOf w n cells) _
+  pub row-more : (n : ℕ) → made (bareRows w (suc n) cells) ≡ made (bareRows w n cells) ++ made (bareRow (take w (drop (n * w) cells)) ∷ [])
+  row-more n = ap made (rows-more w n cells) ∙ add (bareRows w n cells) _
 
-  pub fewer : (n k : ℕ) → length (made (rowsOf w n cells)) ≤ length (made (rowsOf w (n + k) cells))
+  pub fewer : (n k : ℕ) → length (made (bareRows w n cells)) ≤ length (made (bareRows w (n + k) cells))
   fewer n zero = rw add-zero (le-refl _)
   fewer n (suc k) = rw (add-suc n k, row-more (n + k), length-append) (omega (arith, fewer n k))
 

@@ -3,34 +3,55 @@ ghost use mathlib.Core.Path.{_≡_};
 ghost use mathlib.Core.Bool.{false};
 ghost use Prim.Native.Nat.{ℕ, _+_, _-_, _*_, _≤_, _<_};
 ghost use lib.IntN.{pos};
-ghost use lib.ListN.{length, getD};
+ghost use lib.ListN.{length, getD, replicate};
 ghost use Rattle.value.specs.Equality.{eqZ};
-ghost use Rattle.cells.specs.promises.Work.{work, cellsIn, room};
-ghost use Rattle.cells.specs.promises.Written.{Put};
+ghost use Rattle.cells.specs.promises.Work.{work, memoryOf, cellsIn, room};
+ghost use Rattle.cells.specs.promises.Written.{Written, Put};
 ghost use Rattle.memory.specs.promises.Stack.{lastSlot};
 ghost use Rattle.pairs.specs.promises.Pairs as spec;
 use crate::Side;
 use comparison::equal;
+use memory::LAST_MARKS;
 use memory::LAST_SLOT;
 
-// Makes the rows of all left rows, and answers how many there are: 257 if more than 256.
-pub fn join_all(values: &mut [i64], labels: &mut [u32], left: Side, right: Side) -> usize
-    requires { ⌜ spec.Sides (length (now values)) (length (now labels)) left right ⌝ }
-    ensures { λ r. ⌜ spec.Grown 0 left right
-        (spec.allRows (cellsIn (work (now (values .entry)) (now (labels .entry)))) left right)
-        (work (now (values .entry)) (now (labels .entry))) r (work (now (values .exit)) (now (labels .exit))) ⌝ }
+// Makes the rows of all left rows, each with the left row's mark, and answers how many there are: 257 if more than 256.
+pub fn join_all(
+    values: &mut [i64],
+    labels: &mut [u32],
+    marks: &mut [u64],
+    left: Side,
+    right: Side,
+) -> usize
+    requires { ⌜ spec.Sides (length (now values)) (length (now labels)) left right × spec.MarksBelow left (length (now marks)) ⌝ }
+    ensures { λ r. ⌜ spec.Joined left right (memoryOf (now (values .entry)) (now (labels .entry)) (now (marks .entry))) r
+        (memoryOf (now (values .exit)) (now (labels .exit)) (now (marks .exit))) ⌝ }
 {
     let rows = left.rows;
     let mut made = 0;
     let mut row = 0;
     while row < rows {
-        made = join_row(values, labels, left, right, row, made);
-        if 256 < made {
-            return made;
+        let count = join_row(values, labels, left, right, row, made);
+        if 256 < count {
+            return count;
         }
+        let mark = marks[left.marks + row];
+        fill(marks, mark, LAST_MARKS + made, count - made);
+        made = count;
         row += 1;
     }
     made
+}
+
+// Writes a mark so many times from a place on.
+fn fill(marks: &mut [u64], mark: u64, at: usize, count: usize)
+    requires { ⌜ at + count ≤ length (now marks) ⌝ }
+    ensures { λ _. ⌜ Written (now (marks .entry)) at (replicate count mark) (now (marks .exit)) ⌝ }
+{
+    let mut written = 0;
+    while written < count {
+        marks[at + written] = mark;
+        written += 1;
+    }
 }
 
 // Makes the rows of one left row after the `made` rows before, and answers how many there are then: 257 if more than 256.

@@ -2,13 +2,12 @@
 use Prim.Native.Nat.{ℕ}
 use mathlib.Core.Path.{_≡_, ap}
 use mathlib.Core.List.{List, [], _∷_, map}
-use lib.ListN.{length}
 use lib.Seq.{getD-at}
 use Rattle.label_composition.specs.Composition.{composed}
 use Rattle.label_discharge.specs.Discharge.{afterA}
 use Rattle.label_laws.specs.Order.{AsStrict}
 use Rattle.label_laws.proofs.OrderProof.{reflexive, transitive, clear-below, composed-above, composed-least}
-use Rattle.plan.specs.Group.{composedAfter}
+use Rattle.plan.specs.Group.{groupSize, composedAfter}
 use Rattle.plan.specs.Keep.{keptCount, keptCells}
 use Rattle.plan.specs.Numbers.{aggregateCode}
 use Rattle.plan.specs.Sense.Labels.{aggregateLabel, AggregateAsStrict, AggregateNoStricter}
@@ -42,17 +41,17 @@ module _ (code size column : ℕ) where
 
 module _ (keys columns : ℕ) (aggregate : Aggregate) (column : ℕ) where
   label-is : (first : Row) (rest : List Row)
-      → aggregateLabel keys columns aggregate column (first ∷ rest) ≡ over (aggregateCode aggregate) (length (first ∷ rest)) column 0 (first ∷ rest)
+      → aggregateLabel keys columns aggregate column (first ∷ rest) ≡ over (aggregateCode aggregate) (groupSize (first ∷ rest)) column 0 (first ∷ rest)
   label-is first rest =
       ap (λ (cell : Cell). cell .label) (getD-at (keptCells keys columns first) _ [] blank (keptCount keys columns) (kept-length keys columns first))
 
 pub aggregate-as-strict : AggregateAsStrict
 aggregate-as-strict keys columns aggregate column [] = tt
 aggregate-as-strict keys columns aggregate column (first ∷ rest) =
-    rw (label-is keys columns aggregate column first rest) (above-each (aggregateCode aggregate) (length (first ∷ rest)) column 0 (first ∷ rest))
+    rw (label-is keys columns aggregate column first rest) (above-each (aggregateCode aggregate) (groupSize (first ∷ rest)) column 0 (first ∷ rest))
 
 pub aggregate-no-stricter : AggregateNoStricter
 aggregate-no-stricter keys columns aggregate column [] label p = clear-below label
 aggregate-no-stricter keys columns aggregate column (first ∷ rest) label p =
     rw (label-is keys columns aggregate column first rest)
-    (least (aggregateCode aggregate) (length (first ∷ rest)) column 0 label (first ∷ rest) (clear-below label) p)
+    (least (aggregateCode aggregate) (groupSize (first ∷ rest)) column 0 label (first ∷ rest) (clear-below label) p)

@@ -169,7 +169,7 @@ overs-walk row (next ∷ rest) = ap (orElse (overIn row 0 (next .cells))) (overs
 
 label-at : (table : Table) (row column : ℕ) → getD (getD (grid table) row []) column 0 ≡ cellIn table row column .label
 label-at table row column =
-    ap (λ (labels : List ℕ). getD labels column 0) (List·getD-map labelsOf (table .rows) row (record { cells = [] }))
+    ap (λ (labels : List ℕ). getD labels column 0) (List·getD-map labelsOf (table .rows) row (record { cells = []; mark = 0 }))
     ∙ List·getD-map (λ cell. cell .label) (rowIn row table .cells) column blank
 
 grid-at : (n : ℕ) (stack : List Table) → getD (map grid stack) n [] ≡ grid (getD stack n noTable)
@@ -210,7 +210,7 @@ filter-refusal column comparison operand left stack =
     (λ p f. to-table _ p (f .0) (read column operand (p .column) (f .1), f .2)) (first-unclear by-row (readBy column operand) 31 (top stack) 0))
 
 -- a cell that is not clear stands in a row of the table
-in-rows : (rows : List Row) (row column : ℕ) → clear (cellAt column (getD rows row (record { cells = [] })) .label) ≡ false → row < length rows
+in-rows : (rows : List Row) (row column : ℕ) → clear (cellAt column (getD rows row (record { cells = []; mark = 0 })) .label) ≡ false → row < length rows
 in-rows [] row column e = absurd (true≢false e)
 in-rows (next ∷ rest) zero column e = omega arith
 in-rows (next ∷ rest) (suc row) column e = let h = in-rows rest row column e in omega arith
@@ -404,4 +404,4 @@ release-refusal table =
     (first-same (λ p. ⊎-elim (λ t. let f = in-table t in inl (f .0, f .1 .1)) (λ t. let f = in-table t in inr (f .0, f .1 .0, f .1 .1)))
     (λ p. ⊎-elim (λ f. inl (to-table _ p (f .0) (refl, f .1))) (λ f. inr (to-table _ p (f .0) (f .1, f .2))))
     (first-or (λ p q f g. ⊎-elim (λ l. omega arith) (λ l. omega arith)) (first-unclear by-number (λ column. true) 35 table 0)
-    (first-in-table by-number 36 (record { cells = [] }) Over (λ c f. omega arith) (λ row next. overIn row 0 (next .cells)) row-over 0 (table .rows))))
+    (first-in-table by-number 36 (record { cells = []; mark = 0 }) Over (λ c f. omega arith) (λ row next. overIn row 0 (next .cells)) row-over 0 (table .rows))))

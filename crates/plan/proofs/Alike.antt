@@ -7,7 +7,7 @@ use native.Mathlib.Nat.{zero-add, add-zero, add-suc, suc-add}
 use native.Mathlib.Omega.{arith}
 use lib.ListN.{getD, List·getD-map}
 use borrow.Author.Tests.{eqb-true, not-false}
-use Rattle.plan.specs.Secrecy.{Pairwise, none, more, AlikeCells, AlikeRows, AlikeTables}
+use Rattle.plan.specs.Secrecy.{Pairwise, none, more, AlikeCells, AlikeRows, AlikeMarked}
 use Rattle.plan.specs.Table.{Row, Table, clear, blank, cellAt, labelsOf, grid}
 use Rattle.plan.specs.Verdict.{Verdict, fine, refused, orElse, refuseIf, firstRow, firstNotClear}
 use Rattle.plan.specs.declared.Step.{Step}
@@ -49,7 +49,7 @@ module _ (plan : List Step) where
   pub same-labels : {a b : Row} → AlikeRows plan a b → labelsOf a ≡ labelsOf b
   same-labels r = maps-same (λ cell. cell .label) (λ x y c. c .labels) (r .cells)
 
-  pub same-grid : {a b : Table} → AlikeTables plan a b → grid a ≡ grid b
+  pub same-grid : {a b : Table} → AlikeMarked plan a b → grid a ≡ grid b
   same-grid t = maps-same labelsOf (λ x y r. same-labels r) (t .rows)
 
   -- a clear cell has the same value in both

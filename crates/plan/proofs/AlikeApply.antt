@@ -11,7 +11,7 @@ use Rattle.plan.specs.Apply.{operandClear, secondClear, applyRow, checkA
 use Rattle.plan.specs.Locked.{appliesAt, anyStep}
 use Rattle.plan.specs.Numbers.{transformCode, digitsTaken}
 use Rattle.plan.specs.Operands.{operandValue}
-use Rattle.plan.specs.Secrecy.{none, more, AlikeRows, AlikeTables}
+use Rattle.plan.specs.Secrecy.{none, more, AlikeRows, AlikeMarked}
 use Rattle.plan.specs.Table.{Row, Table, clear, cellAt, labelsOf, grid}
 use Rattle.plan.specs.Verdict.{fine, refuseIf}
 use Rattle.plan.specs.declared.Operand.{Operand}
@@ -48,9 +48,10 @@ module _ (plan : List Step) where
             labels = ap (λ (l : ℕ). afterT l (transformCode transform) (digitsTaken transform)) (first .labels);
             values = λ o. same-result transform (t .at) (first .values (transform-locked plan transform (cellAt column a .label) (used (cellAt column a .label)) o)) (t .alike) second;
           } none);
+          mark = t .alike .mark;
         }
 
-    pub apply-alike : {a b : Table} → AlikeTables plan a b → checkApply column transform (grid a) ≡ fine → AlikeTables plan (applied column transform a) (applied column transform b)
+    pub apply-alike : {a b : Table} → AlikeMarked plan a b → checkApply column transform (grid a) ≡ fine → AlikeMarked plan (applied column transform a) (applied column transform b)
     unfolding checkApply applied
     apply-alike t e = record {
       columns = ap (λ (n : ℕ). n + 1) (t .columns);

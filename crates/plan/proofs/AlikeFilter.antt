@@ -7,7 +7,7 @@ use lib.Dec.{eqb}
 use borrow.Author.Tests.{eq-eqb}
 use Rattle.plan.specs.Filter.{readBy, checkFilter, holds, passes, passing, filtered}
 use Rattle.plan.specs.Operands.{operandValue}
-use Rattle.plan.specs.Secrecy.{Pairwise, none, more, AlikeTables}
+use Rattle.plan.specs.Secrecy.{Pairwise, none, more, AlikeMarked}
 use Rattle.plan.specs.Table.{Row, Table, grid}
 use Rattle.plan.specs.Verdict.{Verdict, fine, firstNotClear}
 use Rattle.plan.specs.declared.Comparison.{Comparison}
@@ -42,8 +42,8 @@ module _ (plan : List Step) (column : ℕ) (operand : Operand) where
   same-test : (comparison : Comparison) (a b : Row) → Tested plan test a b → passes column comparison operand a ≡ passes column comparison operand b
   same-test comparison a b t = ap₂ (holds comparison) (read-same plan (readBy column operand) 31 column (reads-first operand) t) (same-operand operand t)
 
-  pub filter-alike : (comparison : Comparison) {a b : Table} → AlikeTables plan a b → checkFilter column operand (grid a) ≡ fine
-      → AlikeTables plan (filtered column comparison operand a) (filtered column comparison operand b)
+  pub filter-alike : (comparison : Comparison) {a b : Table} → AlikeMarked plan a b → checkFilter column operand (grid a) ≡ fine
+      → AlikeMarked plan (filtered column comparison operand a) (filtered column comparison operand b)
   unfolding checkFilter filtered
   filter-alike comparison t e = record {
     columns = t .columns;

@@ -8,11 +8,11 @@ use lib.ListN.{getD, List·getD-map}
 use Rattle.label_composition.specs.Composition.{composed}
 use Rattle.label_discharge.specs.Discharge.{allowsAggregate, forbidsA, afterA}
 use Rattle.plan.specs.Masks.{inMask}
-use Rattle.plan.specs.Group.{checkGroup, sameKeys, anySame, groupsAfter, groupSize, aggregateValue, composedAfter, groupRow, grouped}
+use Rattle.plan.specs.Group.{checkGroup, sameKeys, anySame, groupsAfter, distinct, groupSize, aggregateValue, composedAfter, groupRow, grouped}
 use Rattle.plan.specs.Keep.{keptCount}
 use Rattle.plan.specs.Locked.{groupsAt, anyStep, locked}
 use Rattle.plan.specs.Numbers.{aggregateCode}
-use Rattle.plan.specs.Secrecy.{Pairwise, none, more, AlikeCells, AlikeRows, AlikeTables}
+use Rattle.plan.specs.Secrecy.{Pairwise, none, more, AlikeCells, AlikeRows, AlikeMarked}
 use Rattle.plan.specs.Table.{Row, Table, blank, cellAt, labelsOf, grid}
 use Rattle.plan.specs.Verdict.{Verdict, fine, refuseIf, firstRow, firstNotClear, notClear}
 use Rattle.plan.specs.declared.Aggregate.{Aggregate}
@@ -22,7 +22,7 @@ use Rattle.plan.proofs.Alike.{or-fine, if-fine, Tested, tested, cells-a
 use Rattle.plan.proofs.AlikeFilter.{both-pass}
 use Rattle.plan.proofs.AlikeKeep.{kept-cells-alike}
 use Rattle.plan.proofs.LockedLaws.{composed-left, composed-right, aggregate-locked}
-use Rattle.plan.proofs.Pairs.{same-length, both-append, both-cond, both-map, maps-same}
+use Rattle.plan.proofs.Pairs.{both-append, both-cond, both-map, maps-same}
 
 either-same : (b p q : Bool) → (b ≡ true → p ≡ q) → (not b || p) ≡ (not b || q)
 either-same true p q e = e refl
@@ -79,18 +79,23 @@ module _ (plan : List Step) (keys column : ℕ) where
         let mine = aggregate-locked plan aggregate l size (used l) (r .free) (composed-right plan label next (rest .0)) in
         (composed-left plan label next (rest .0), ap₂ _∷_ (cells-alike plan column (r .keyed .alike) .values mine) (rest .1))
 
+    sheets-same : {g h : List Row} → Pairwise Ready g h → groupSize g ≡ groupSize h
+    unfolding groupSize
+    sheets-same p = ap distinct (maps-same (λ row. row .mark) (λ x y r. r .keyed .alike .mark) p)
+
     row-alike : (columns : ℕ) (g h : List Row) → Pairwise Ready g h → AlikeRows plan (groupRow keys columns aggregate column g) (groupRow keys columns aggregate column h)
-    row-alike columns g h none = record { cells = none }
+    row-alike columns g h none = record { cells = none; mark = refl }
     row-alike columns g h (more r p) =
         let cells = both-map {S = AlikeCells plan} (cellAt column) (cellAt column) (λ x y s. cells-alike plan column (s .keyed .alike)) (more r p) in
         record {
           cells = both-append (kept-cells-alike plan keys columns (r .keyed .alike)) (more record {
-            labels = ap₂ (λ (size : ℕ) (labels : List ℕ). composedAfter (aggregateCode aggregate) size 0 labels) (same-length (more r p)) (maps-same (λ cell. cell .label) (λ x y c. c .labels) cells);
+            labels = ap₂ (λ (size : ℕ) (labels : List ℕ). composedAfter (aggregateCode aggregate) size 0 labels) (sheets-same (more r p)) (maps-same (λ cell. cell .label) (λ x y c. c .labels) cells);
             values = λ o. ap (aggregateValue aggregate) (members-same (groupSize g) 0 (more r p) o .1);
           } none);
+          mark = r .keyed .alike .mark;
         }
 
-    pub group-alike : {a b : Table} → AlikeTables plan a b → checkGroup keys column (grid a) ≡ fine → AlikeTables plan (grouped keys aggregate column a) (grouped keys aggregate column b)
+    pub group-alike : {a b : Table} → AlikeMarked plan a b → checkGroup keys column (grid a) ≡ fine → AlikeMarked plan (grouped keys aggregate column a) (grouped keys aggregate column b)
     unfolding checkGroup grouped
     group-alike {a} {b} t e =
         let h = or-fine (notClear (inMask keys) 31 0 (grid a)) (firstRow freeTest 0 (grid a)) e in

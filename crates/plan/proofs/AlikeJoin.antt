@@ -6,7 +6,7 @@ use lib.Dec.{eqb}
 use lib.ListN.{length}
 use borrow.Author.Tests.{eq-eqb}
 use Rattle.plan.specs.Join.{checkJoin, matches, joinedTo, joinedRows, joined}
-use Rattle.plan.specs.Secrecy.{Pairwise, none, more, AlikeRows, AlikeTables}
+use Rattle.plan.specs.Secrecy.{Pairwise, none, more, AlikeRows, AlikeMarked}
 use Rattle.plan.specs.Table.{Row, Table, cellAt, grid}
 use Rattle.plan.specs.Verdict.{Verdict, fine, firstNotClear, notClear}
 use Rattle.plan.specs.declared.Step.{Step}
@@ -27,15 +27,15 @@ module _ (plan : List Step) (a b : ℕ) where
   joined-to {l} {m} t (more {x} {y} r p) =
       let rest = joined-to t p in
       let row = both-append (t .alike .cells) (both-append (both-take b (r .alike .cells)) (both-drop (suc b) (r .alike .cells))) in
-      both-cond (matches a b l x) (matches a b m y) (ap₂ equal (key-same a t) (key-same b r)) (more record { cells = row } rest) rest
+      both-cond (matches a b l x) (matches a b m y) (ap₂ equal (key-same a t) (key-same b r)) (more record { cells = row; mark = t .alike .mark } rest) rest
 
   joined-rows : {ls ms : List Row} → Pairwise (Tested plan (keyTest a)) ls ms → {xs ys : List Row} → Pairwise (Tested plan (keyTest b)) xs ys
       → Pairwise (AlikeRows plan) (joinedRows a b ls xs) (joinedRows a b ms ys)
   joined-rows none q = none
   joined-rows (more t p) q = both-append (joined-to t q) (joined-rows p q)
 
-  pub join-alike : {l m x y : Table} → AlikeTables plan l m → AlikeTables plan x y → checkJoin a b (grid l) (grid x) ≡ fine
-      → AlikeTables plan (joined a b l x) (joined a b m y)
+  pub join-alike : {l m x y : Table} → AlikeMarked plan l m → AlikeMarked plan x y → checkJoin a b (grid l) (grid x) ≡ fine
+      → AlikeMarked plan (joined a b l x) (joined a b m y)
   unfolding checkJoin joined
   join-alike {l} {m} {x} {y} t u e =
       let h = or-fine (notClear (λ c. eqb c a) 31 0 (grid l)) (notClear (λ c. eqb c b) 31 (length (grid l)) (grid x)) e in

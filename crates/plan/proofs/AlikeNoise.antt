@@ -12,7 +12,7 @@ use Rattle.noise_value.specs.Noise.{noisy}
 use Rattle.plan.specs.Locked.{anyStep}
 use Rattle.plan.specs.Noise.{noiseRow, checkNoise, noisyRow, noisyRows, withNoise}
 use Rattle.plan.specs.Numbers.{isNoise}
-use Rattle.plan.specs.Secrecy.{Pairwise, none, more, AlikeRows, AlikeTables}
+use Rattle.plan.specs.Secrecy.{Pairwise, none, more, AlikeRows, AlikeMarked}
 use Rattle.plan.specs.Table.{Row, Table, blank, cellAt, labelsOf, grid}
 use Rattle.plan.specs.Verdict.{refuseIf, fine}
 use Rattle.plan.specs.declared.Step.{Step}
@@ -31,13 +31,14 @@ module _ (plan : List Step) (column left : ℕ) (used : anyStep isNoise plan ≡
           labels = ap afterN (cell .labels);
           values = λ o. ap (λ (v : ℤ). noisy v draw) (cell .values (noise-locked plan (cellAt column a .label) used (sym (ap forbidsN label) ∙ free) o));
         } none);
+        mark = t .alike .mark;
       }
 
   rows-alike : (draws : List ℤ) {xs ys : List Row} → Pairwise (Tested plan (noiseRow column left)) xs ys → Pairwise (AlikeRows plan) (noisyRows column draws xs) (noisyRows column draws ys)
   rows-alike draws none = none
   rows-alike draws (more {x = a} {y = b} t p) = more (row-alike _ a b t) (rows-alike (drop 1 draws) p)
 
-  pub noise-alike : (draws : List ℤ) {a b : Table} → AlikeTables plan a b → checkNoise column left (grid a) ≡ fine → AlikeTables plan (withNoise column draws a) (withNoise column draws b)
+  pub noise-alike : (draws : List ℤ) {a b : Table} → AlikeMarked plan a b → checkNoise column left (grid a) ≡ fine → AlikeMarked plan (withNoise column draws a) (withNoise column draws b)
   unfolding checkNoise withNoise
   noise-alike draws t e = record {
     columns = ap (λ (n : ℕ). n + 1) (t .columns);

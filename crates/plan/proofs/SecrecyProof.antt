@@ -9,7 +9,7 @@ use Rattle.plan.specs.Evaluate.{Result, release, ending, behind, checkRe
 use Rattle.plan.specs.Locked.{appliesAt, groupsAt, anyStep}
 use Rattle.plan.specs.Scan.{scanned}
 use Rattle.plan.specs.Numbers.{isNoise}
-use Rattle.plan.specs.Secrecy.{Pairwise, none, more, AlikeCells, AlikeTables, AlikeSupplies, Secrecy}
+use Rattle.plan.specs.Secrecy.{Pairwise, none, more, AlikeCells, AlikeMarked, AlikeSupplies, Secrecy}
 use Rattle.plan.specs.Steps.{takes, check, make, tooMany, drawsUsed, supplyAfter}
 use Rattle.plan.specs.Supply.{Supply}
 use Rattle.plan.specs.Table.{Cell, Row, Table, noTable, labelsOf, grid, top}
@@ -30,13 +30,13 @@ use Rattle.plan.proofs.LockedLaws.{clear-open}
 use Rattle.plan.proofs.Pairs.{same-length, both-append, both-drop, both-get, maps-same}
 
 module _ (plan : List Step) where
-  no-table-alike : AlikeTables plan noTable noTable
+  no-table-alike : AlikeMarked plan noTable noTable
   no-table-alike = record { columns = refl; rows = none }
 
   abbrev Stacks : List Table → List Table → Type 0
-  Stacks = Pairwise (AlikeTables plan)
+  Stacks = Pairwise (AlikeMarked plan)
 
-  at-place : (n : ℕ) {ss rs : List Table} → Stacks ss rs → AlikeTables plan (getD ss n noTable) (getD rs n noTable)
+  at-place : (n : ℕ) {ss rs : List Table} → Stacks ss rs → AlikeMarked plan (getD ss n noTable) (getD rs n noTable)
   at-place n s = both-get n noTable no-table-alike s
 
   -- the labels that a check is handed are those of the tables
@@ -45,7 +45,7 @@ module _ (plan : List Step) where
 
   -- where a step is not refused, it makes alike tables
   make-alike : (step : Step) → ((test : Step → Bool) → test step ≡ true → anyStep test plan ≡ true) → (p q : Supply) → AlikeSupplies plan p q
-      → (ss rs : List Table) → Stacks ss rs → check step (length (p .draws)) (map grid ss) ≡ fine → AlikeTables plan (make step p ss) (make step q rs)
+      → (ss rs : List Table) → Stacks ss rs → check step (length (p .draws)) (map grid ss) ≡ fine → AlikeMarked plan (make step p ss) (make step q rs)
   unfolding make check scanned united
   make-alike (Scan table) mine p q t ss rs s e = at-place table (t .tables)
   make-alike Union mine p q t ss rs s e = record { columns = at-place 1 s .columns; rows = both-append (at-place 1 s .rows) (at-place 0 s .rows) }
@@ -67,11 +67,11 @@ module _ (plan : List Step) where
   }
 
   -- alike tables have the same figures
-  same-line : (step : Step) (a b : Table) → AlikeTables plan a b → lineOf step a ≡ lineOf step b
+  same-line : (step : Step) (a b : Table) → AlikeMarked plan a b → lineOf step a ≡ lineOf step b
   unfolding lineOf
   same-line step a b t = cc (same-length (t .rows), t .columns, same-grid plan t)
 
-  same-limit : (step : Step) (a b : Table) → AlikeTables plan a b → tooMany step a ≡ tooMany step b
+  same-limit : (step : Step) (a b : Table) → AlikeMarked plan a b → tooMany step a ≡ tooMany step b
   unfolding tooMany
   same-limit step a b t = rw (same-length (t .rows))
 
@@ -90,7 +90,8 @@ module _ (plan : List Step) where
   rows-equal none = refl
   rows-equal (more {x} t p) =
       let e = cells-equal (t .alike .cells) (λ i. all-clear (λ column. true) 35 0 (t .at) (labelsOf x) (t .nothing) i refl) in
-      ap₂ _∷_ (λ i. record { cells = e i }) (rows-equal p)
+      let m = t .alike .mark in
+      ap₂ _∷_ (λ i. record { cells = e i; mark = m i }) (rows-equal p)
 
   same-ending : (v : Verdict) (step : ℕ) (x y : Result) → (v ≡ fine → x ≡ y) → ending v step x ≡ ending v step y
   same-ending fine step x y f = f refl
@@ -104,13 +105,13 @@ module _ (plan : List Step) where
   same-or (refused number row column) u w f = refl
 
   -- where every label is clear, alike tables are equal; so the release is the same, and so are 35 and 36
-  tables-equal : (a b : Table) → AlikeTables plan a b → notClear (λ column. true) 35 0 (grid a) ≡ fine → a ≡ b
+  tables-equal : (a b : Table) → AlikeMarked plan a b → notClear (λ column. true) 35 0 (grid a) ≡ fine → a ≡ b
   tables-equal a b t e =
       let r = rows-equal (tested plan clearTest 0 (t .rows) e) in
       let c = t .columns in
       λ i. record { columns = c i; rows = r i }
 
-  release-same : (step : ℕ) (a b : Table) → AlikeTables plan a b
+  release-same : (step : ℕ) (a b : Table) → AlikeMarked plan a b
       → ending (checkRelease a) step (record { outcome = release a; trace = [] }) ≡ ending (checkRelease b) step (record { outcome = release b; trace = [] })
   unfolding checkRelease
   release-same step a b t =

@@ -32,7 +32,7 @@ none-fails (FirstAt.at f h) e = absurd (let z : _≡_ {A = ℕ} 0 1 = cc in omeg
 pub released-clear : ReleasedClear
 released-clear plan supply table e =
     let none = none-fails (release-refusal table) (release-is-last plan supply table e .1) in
-    each-at _ (table .rows) (record { cells = [] }) (λ row h.
+    each-at _ (table .rows) (record { cells = []; mark = 0 }) (λ row h.
     each-at _ (rowIn row table .cells) blank (λ column l. (
       eqb-true _ 0 (is-true _ (λ f. none (place 35 row column) (inl (refl, f)))),
       is-true _ (λ f. none (place 36 row column) (inr (refl, l, f))),

@@ -21,7 +21,7 @@ use Rattle.plan.proofs.Alike.{or-fine, if-fine}
 use Rattle.plan.proofs.SenseShape.{noisy-count}
 
 abbrev noRow : Row
-noRow = record { cells = [] }
+noRow = record { cells = []; mark = 0 }
 
 row-at : (column : ℕ) (draws : List ℤ) (rows : List Row) (i : ℕ) → i < length rows
     → getD (noisyRows column draws rows) i noRow ≡ noisyRow column (getD rows i noRow) (getD draws i (pos 0))

@@ -49,7 +49,7 @@ newCell transform first row = record {
 }
 
 abbrev pub appliedRow : ℕ → Transform → Row → Row
-appliedRow column transform row = record { cells = row .cells ++ (newCell transform (cellAt column row) row ∷ []) }
+appliedRow column transform row = record { cells = row .cells ++ (newCell transform (cellAt column row) row ∷ []); mark = row .mark }
 
 unfoldable pub applied : ℕ → Transform → Table → Table
 applied column transform table = record { columns = table .columns + 1; rows = map (appliedRow column transform) (table .rows) }

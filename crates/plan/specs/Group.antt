@@ -3,6 +3,7 @@
 use Prim.Native.Nat.{ℕ, zero, suc, _+_}
 use mathlib.Core.Bool.{Bool, true, false, cond, not, _&&_, _||_}
 use mathlib.Core.List.{List, [], _∷_, _++_, map}
+use lib.Dec.{eqb}
 use lib.IntN.{ℤ, pos}
 use lib.ListN.{length, getD}
 use Rattle.label_composition.specs.Composition.{composed}
@@ -40,9 +41,21 @@ groupsAfter keys columns earlier (row ∷ rest) =
     cond (anySame keys columns row earlier) [] ((row ∷ passing (sameKeys keys columns row) rest) ∷ [])
     ++ groupsAfter keys columns (earlier ++ (row ∷ [])) rest
 
--- what a label's group minimum is held against: the rows of the group
-abbrev pub groupSize : List Row → ℕ
-groupSize group = length group
+-- how many different marks there are: a mark counts where it stands first, and `seen` are those before it
+abbrev pub anyMark : ℕ → List ℕ → Bool
+anyMark mark [] = false
+anyMark mark (other ∷ rest) = eqb other mark || anyMark mark rest
+
+abbrev pub distinctAfter : List ℕ → List ℕ → ℕ
+distinctAfter seen [] = 0
+distinctAfter seen (mark ∷ rest) = cond (anyMark mark seen) 0 1 + distinctAfter (mark ∷ seen) rest
+
+abbrev pub distinct : List ℕ → ℕ
+distinct marks = distinctAfter [] marks
+
+-- what a label's group minimum is held against, #103: "The group minimum shall count distinct sheets", those of all rows of the group
+unfoldable pub groupSize : List Row → ℕ
+groupSize group = distinct (map (λ row. row .mark) group)
 
 -- a value and the others, two at a time
 abbrev pub foldedFrom : (ℤ → ℤ → ℤ) → ℤ → List ℤ → ℤ
@@ -61,22 +74,23 @@ aggregateValue Min values = folded smaller values
 aggregateValue Max values = folded larger values
 aggregateValue Avg values = cond (allInRange values) (average (exactSum values) (length values)) OVER
 
--- the composition, in row order, of labels discharged at level A
+-- the composition, in row order, of labels discharged at level A over so many sheets
 abbrev pub composedAfter : ℕ → ℕ → ℕ → List ℕ → ℕ
-composedAfter code rows label [] = label
-composedAfter code rows label (next ∷ rest) = composedAfter code rows (composed label (afterA next code rows)) rest
+composedAfter code sheets label [] = label
+composedAfter code sheets label (next ∷ rest) = composedAfter code sheets (composed label (afterA next code sheets)) rest
 
 abbrev pub aggregateCell : Aggregate → List Cell → ℕ → Cell
-aggregateCell aggregate cells rows = record {
+aggregateCell aggregate cells sheets = record {
   value = aggregateValue aggregate (map (λ cell. cell .value) cells);
-  label = composedAfter (aggregateCode aggregate) rows 0 (map (λ cell. cell .label) cells);
+  label = composedAfter (aggregateCode aggregate) sheets 0 (map (λ cell. cell .label) cells);
 }
 
--- a group's keys, those of its first row, and its aggregate
+-- a group's keys, those of its first row, and its aggregate; #103: "a group row takes its first row's mark"
 abbrev pub groupRow : ℕ → ℕ → Aggregate → ℕ → List Row → Row
-groupRow keys columns aggregate column [] = record { cells = [] }
+groupRow keys columns aggregate column [] = record { cells = []; mark = 0 }
 groupRow keys columns aggregate column (first ∷ rest) = record {
   cells = keptCells keys columns first ++ (aggregateCell aggregate (map (cellAt column) (first ∷ rest)) (groupSize (first ∷ rest)) ∷ []);
+  mark = first .mark;
 }
 
 unfoldable pub grouped : ℕ → Aggregate → ℕ → Table → Table

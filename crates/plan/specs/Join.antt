@@ -17,8 +17,9 @@ checkJoin a b left right = orElse (notClear (λ c. eqb c a) 31 0 left) (notClear
 abbrev pub matches : ℕ → ℕ → Row → Row → Bool
 matches a b left right = equal (cellAt a left .value) (cellAt b right .value)
 
+-- #103: "A joined row takes the left mark"
 abbrev pub joinedRow : ℕ → Row → Row → Row
-joinedRow b left right = record { cells = left .cells ++ (take b (right .cells) ++ drop (suc b) (right .cells)) }
+joinedRow b left right = record { cells = left .cells ++ (take b (right .cells) ++ drop (suc b) (right .cells)); mark = left .mark }
 
 -- the rows that one left row makes
 abbrev pub joinedTo : ℕ → ℕ → Row → List Row → List Row

@@ -16,7 +16,7 @@ keptCells mask zero row = []
 keptCells mask (suc column) row = keptCells mask column row ++ cond (inMask mask column) (cellAt column row ∷ []) []
 
 abbrev pub keptRow : ℕ → ℕ → Row → Row
-keptRow mask columns row = record { cells = keptCells mask columns row }
+keptRow mask columns row = record { cells = keptCells mask columns row; mark = row .mark }
 
 unfoldable pub kept : ℕ → Table → Table
 kept mask table = record { columns = keptCount mask (table .columns); rows = map (keptRow mask (table .columns)) (table .rows) }

@@ -1,5 +1,6 @@
 -- The meaning of a plan. These files are what a reader must believe.
 pub mod Table
+pub mod Sheets
 pub mod Verdict
 pub mod Numbers
 pub mod Scan

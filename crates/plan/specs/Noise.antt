@@ -26,7 +26,7 @@ abbrev pub noisyCell : Cell → ℤ → Cell
 noisyCell cell draw = record { value = noisy (cell .value) draw; label = afterN (cell .label) }
 
 abbrev pub noisyRow : ℕ → Row → ℤ → Row
-noisyRow column row draw = record { cells = row .cells ++ (noisyCell (cellAt column row) draw ∷ []) }
+noisyRow column row draw = record { cells = row .cells ++ (noisyCell (cellAt column row) draw ∷ []); mark = row .mark }
 
 -- each row with the next draw; 37 refuses a row for which there is none
 abbrev pub noisyRows : ℕ → List ℤ → List Row → List Row

@@ -1,5 +1,5 @@
 -- Cells, rows, tables and the stack. Order is part of each of them.
-use Prim.Native.Nat.{ℕ, zero, suc}
+use Prim.Native.Nat.{ℕ}
 use mathlib.Core.Path.{_≡_}
 use mathlib.Core.Bool.{Bool}
 use mathlib.Core.List.{List, [], _∷_, _++_, map}
@@ -13,8 +13,10 @@ pub record Cell : Type 0 where
   pub value : ℤ
   pub label : ℕ
 
+-- #103: "Each row now carries a sheet mark". Document 02 coins the word: rows with one mark are of one sheet.
 pub record Row : Type 0 where
   pub cells : List Cell
+  pub mark : ℕ
 
 -- a table of no rows still has its columns
 pub record Table : Type 0 where
@@ -39,10 +41,10 @@ Shaped table = Each (λ row. length (row .cells) ≡ table .columns) (table .row
 abbrev pub clear : ℕ → Bool
 clear label = eqb label 0
 
--- a table's cells, row by row, as rows of so many columns
-abbrev pub rowsOf : ℕ → ℕ → List Cell → List Row
-rowsOf columns zero cells = []
-rowsOf columns (suc rows) cells = record { cells = take columns cells } ∷ rowsOf columns rows (drop columns cells)
+-- a table's cells, row by row, as rows of so many columns with these marks
+abbrev pub rowsOf : ℕ → List ℕ → List Cell → List Row
+rowsOf columns [] cells = []
+rowsOf columns (mark ∷ marks) cells = record { cells = take columns cells; mark = mark } ∷ rowsOf columns marks (drop columns cells)
 
 -- where nothing stands: no accepted plan reads one
 abbrev pub blank : Cell

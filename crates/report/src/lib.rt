@@ -24,6 +24,7 @@ fn run(container: &[u8], draws: &[i64], as_text: bool) -> u32
 {
     let mut values = [0i64; 8192];
     let mut labels = [0u32; 8192];
+    let mut marks = [0u64; 1024];
     let mut output = [0i64; 2048];
     let mut trace = [0u32; 256];
     let mut text = [0u8; 35097];
@@ -33,6 +34,7 @@ fn run(container: &[u8], draws: &[i64], as_text: bool) -> u32
         draws,
         &mut values,
         &mut labels,
+        &mut marks,
         &mut output,
         &mut trace,
         &mut text,

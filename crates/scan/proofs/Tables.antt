@@ -2,38 +2,42 @@
 use Prim.Native.Nat.{ℕ, zero, suc, _+_, _-_, _<_}
 use mathlib.Core.Path.{_≡_, refl, sym, ap, _∙_}
 use mathlib.Core.List.{List}
-use native.Mathlib.Nat.{add-zero}
+use native.Mathlib.Nat.{add-zero, zero-add, add-suc, suc-add, add-comm}
 use native.Mathlib.Omega.{arith}
-use lib.ListN.{length, getD, length-map}
-use Rattle.container.specs.Contents.{tablesFrom, tablesOf}
+use lib.ListN.{length, getD, length-map, List·getD-map}
+use Rattle.container.specs.Contents.{tablesFrom, inputTables, tablesOf}
 use Rattle.layout.specs.Layout.{partCount, partOf}
+use Rattle.little_endian.proofs.Numbers.{number-one, joined}
 use Rattle.memory.specs.promises.Steps.{widthsOf}
-use Rattle.plan.specs.Table.{noTable}
+use Rattle.plan.specs.Sheets.{withMarks, allWithMarks}
+use Rattle.plan.specs.Table.{Table, noTable}
 use Rattle.table_part.specs.TablePart.{columnsOf, tableOf}
 
-from-length : (bytes : List ℕ) (part more : ℕ) → length (tablesFrom bytes part more) ≡ more
-from-length bytes part zero = refl
-from-length bytes part (suc more) = ap suc (from-length bytes (suc part) more)
+module _ (bytes : List ℕ) where
+  tables-length : (table part more : ℕ) → length (allWithMarks table (tablesFrom bytes part more)) ≡ more
+  tables-length table part zero = refl
+  tables-length table part (suc more) = ap suc (tables-length (suc table) (suc part) more)
 
-from-get : (bytes : List ℕ) (part more t : ℕ) → t < more → getD (tablesFrom bytes part more) t noTable ≡ tableOf (partOf bytes (part + t))
-from-get bytes part zero t h = absurd (omega arith)
-from-get bytes part (suc more) zero h = ap (λ (n : ℕ). tableOf (partOf bytes n)) (sym (add-zero part))
-from-get bytes part (suc more) (suc t) h = from-get bytes (suc part) more t (omega arith) ∙ ap (λ (n : ℕ). tableOf (partOf bytes n)) (let e : suc part + t ≡ part + suc t = omega arith in e)
+  table-at : (table part more t : ℕ) → t < more
+      → getD (allWithMarks table (tablesFrom bytes part more)) t noTable ≡ withMarks (table + t) (tableOf (partOf bytes (part + t)))
+  table-at table part zero t h = absurd (omega arith)
+  table-at table part (suc more) zero h = rw (add-zero table, add-zero part)
+  table-at table part (suc more) (suc t) h =
+      rw (add-suc table t ∙ sym (suc-add table t), add-suc part t ∙ sym (suc-add part t)) (table-at (suc table) (suc part) more t (omega arith))
 
-from-width : (bytes : List ℕ) (part more t : ℕ) → t < more → getD (widthsOf (tablesFrom bytes part more)) t 0 ≡ columnsOf (partOf bytes (part + t))
-unfolding tableOf
-from-width bytes part zero t h = absurd (omega arith)
-from-width bytes part (suc more) zero h = ap (λ (n : ℕ). columnsOf (partOf bytes n)) (sym (add-zero part))
-from-width bytes part (suc more) (suc t) h = from-width bytes (suc part) more t (omega arith) ∙ ap (λ (n : ℕ). columnsOf (partOf bytes n)) (let e : suc part + t ≡ part + suc t = omega arith in e)
+  pub widths-count : length (widthsOf (tablesOf bytes)) ≡ partCount bytes - 1
+  unfolding tablesOf inputTables
+  widths-count = length-map (tablesOf bytes) (λ table. table .columns) ∙ tables-length 0 1 (partCount bytes - 1)
 
-pub widths-count : (bytes : List ℕ) → length (widthsOf (tablesOf bytes)) ≡ partCount bytes - 1
-unfolding tablesOf
-widths-count bytes = length-map (tablesOf bytes) (λ table. table .columns) ∙ from-length bytes 1 (partCount bytes - 1)
+  module _ (t : ℕ) (h : t < partCount bytes - 1) where
+    pub table-is : getD (tablesOf bytes) t noTable ≡ withMarks t (tableOf (partOf bytes (t + 1)))
+    unfolding tablesOf inputTables
+    table-is = rw (add-comm t 1) (rw (zero-add t) at (table-at 0 1 (partCount bytes - 1) t h))
 
-pub table-is : (bytes : List ℕ) (t : ℕ) → t < partCount bytes - 1 → getD (tablesOf bytes) t noTable ≡ tableOf (partOf bytes (t + 1))
-unfolding tablesOf
-table-is bytes t h = from-get bytes 1 (partCount bytes - 1) t h ∙ ap (λ (n : ℕ). tableOf (partOf bytes n)) (let e : 1 + t ≡ t + 1 = omega arith in e)
+    pub width-is : getD (widthsOf (tablesOf bytes)) t 0 ≡ columnsOf (partOf bytes (t + 1))
+    unfolding withMarks tableOf
+    width-is = List·getD-map (λ table. table .columns) (tablesOf bytes) t noTable ∙ ap (λ (table : Table). table .columns) table-is
 
-pub width-is : (bytes : List ℕ) (t : ℕ) → t < partCount bytes - 1 → getD (widthsOf (tablesOf bytes)) t 0 ≡ columnsOf (partOf bytes (t + 1))
-unfolding tablesOf
-width-is bytes t h = from-width bytes 1 (partCount bytes - 1) t h ∙ ap (λ (n : ℕ). columnsOf (partOf bytes n)) (let e : 1 + t ≡ t + 1 = omega arith in e)
+  -- a part count is a number of two bytes
+  pub few-parts : ((i : ℕ) → getD bytes i 0 < 256) → partCount bytes < 65536
+  few-parts bounds = omega (arith, bounds 0, bounds 1, joined bytes 0 1 1 (number-one bytes 0 refl) (number-one bytes 1 refl))

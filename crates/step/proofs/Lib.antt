@@ -1,2 +1,3 @@
 -- What the promise of a step leaves open.
 pub mod OpenProof
+mod Short

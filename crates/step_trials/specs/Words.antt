@@ -76,8 +76,8 @@ placeFrom (suc left) index byte text shapes = cond (shaped text (partOf byte ind
 unfoldable pub placeOf : ℕ → List ℕ → List ℕ → ℕ
 placeOf byte text shapes = placeFrom (countOf byte shapes) 0 byte text shapes
 
--- what a word between tables is: 0 the columns of a table, 1 a cell, 13 neither of them though it looks so, or what it is by its name
+-- what a word between tables is: 0 the columns of a table, 1 a cell, 14 neither of them though it looks so, or what it is by its name
 unfoldable pub formOf : List ℕ → ℕ → ℕ
 formOf word named =
-    cond (eqb (countOf 124 word) 1) (cond (ltb (numberOf 10 (partOf 124 0 word)) none) 0 13)
-    (cond (eqb (countOf 58 word) 1) (cond (eqb (bitsOf (partOf 58 0 word)) none) 13 (cond (ltb (numberOf 16 (partOf 58 1 word)) (2 ^ 32)) 1 13)) named)
+    cond (eqb (countOf 124 word) 1) (cond (ltb (numberOf 10 (partOf 124 0 word)) none) 0 14)
+    (cond (eqb (countOf 58 word) 1) (cond (eqb (bitsOf (partOf 58 0 word)) none) 14 (cond (ltb (numberOf 16 (partOf 58 1 word)) (2 ^ 32)) 1 14)) named)

@@ -18,10 +18,11 @@ use step::take_step;
 pub struct Lent {
     pub values: usize,
     pub labels: usize,
+    pub marks: usize,
     pub bytes: usize,
 }
 
-// Prints a case and its answer.
+// Prints a case and its answer. Each row has a mark of its own.
 pub fn print(
     v: &mut [i64; 8200],
     l: &mut [u32; 8200],
@@ -30,18 +31,40 @@ pub fn print(
     stack: Stack,
     case: Case,
 ) {
-    lend(v, l, c, lent, stack, case);
+    let mut m = own_marks();
+    lend(v, l, &mut m, c, lent, stack, case);
     text(b"\n");
 }
 
+// Marks of which no two are the same.
+fn own_marks() -> [u64; 1032] {
+    let mut m = [0; 1032];
+    let mut i = 0;
+    while i < 1032 {
+        m[i] = i as u64;
+        i += 1;
+    }
+    m
+}
+
 // Lends so much to a case.
-fn lend(v: &mut [i64], l: &mut [u32], c: &[u8], lent: Lent, stack: Stack, case: Case) {
+fn lend(
+    v: &mut [i64],
+    l: &mut [u32],
+    m: &mut [u64],
+    c: &[u8],
+    lent: Lent,
+    stack: Stack,
+    case: Case,
+) {
     let values = within(lent.values, v.len());
     let labels = within(lent.labels, l.len());
+    let marks = within(lent.marks, m.len());
     let bytes = within(lent.bytes, c.len());
     answer(
         &mut v[0..values],
         &mut l[0..labels],
+        &mut m[0..marks],
         &c[0..bytes],
         stack,
         case,
@@ -56,65 +79,82 @@ fn within(count: usize, length: usize) -> usize
     if count < length { count } else { length }
 }
 
-fn answer(v: &mut [i64], l: &mut [u32], c: &[u8], stack: Stack, case: Case) {
+fn answer(v: &mut [i64], l: &mut [u32], m: &mut [u64], c: &[u8], stack: Stack, case: Case) {
     match case {
-        Case::Step(step) => take(v, l, c, stack, step),
+        Case::Step(step) => take(v, l, m, c, stack, step),
         Case::Noise(column, draws, a, b, c, d) => {
             let numbers = [a, b, c, d];
-            draw(v, l, stack, column, &numbers, draws);
+            draw(v, l, m, stack, column, &numbers, draws);
         }
-        Case::Other(shape, a, b) => other(v, l, c, stack, shape, a, b),
+        Case::Other(shape, a, b) => other(v, l, m, c, stack, shape, a, b),
     }
 }
 
 // By the number of its shape.
-fn other(v: &mut [i64], l: &mut [u32], c: &[u8], stack: Stack, shape: usize, a: usize, b: usize) {
+fn other(
+    v: &mut [i64],
+    l: &mut [u32],
+    m: &mut [u64],
+    c: &[u8],
+    stack: Stack,
+    shape: usize,
+    a: usize,
+    b: usize,
+) {
     match shape {
         10 => digits(c),
-        11 => stages_left(v, l, stack),
-        12 => first_over(v, l, stack),
+        11 => stages_left(v, l, m, stack),
+        12 => first_over(v, l, m, stack),
         13 => trace(a),
-        14 => output(v, l, stack, a, b),
-        _ => clear(v, l),
+        14 => output(v, l, m, stack, a, b),
+        _ => clear(v, l, m),
     }
 }
 
 // A step: the tables after it, or its refusal.
-fn take(v: &mut [i64], l: &mut [u32], c: &[u8], stack: Stack, step: Step) {
+fn take(v: &mut [i64], l: &mut [u32], m: &mut [u64], c: &[u8], stack: Stack, step: Step) {
     print_step(step, c.len());
-    given(v, l, stack);
+    given(v, l, m, stack);
     let none = [0i64; 0];
-    let stepped = take_step(c, &none, v, l, stack, step);
+    let stepped = take_step(c, &none, v, l, m, stack, step);
     after(v, l, stepped);
 }
 
 // NOISE with so many of these draws left.
-fn draw(v: &mut [i64], l: &mut [u32], stack: Stack, column: usize, numbers: &[i64], draws: usize) {
+fn draw(
+    v: &mut [i64],
+    l: &mut [u32],
+    m: &mut [u64],
+    stack: Stack,
+    column: usize,
+    numbers: &[i64],
+    draws: usize,
+) {
     let count = within(draws, numbers.len());
-    noise(v, l, stack, column, &numbers[0..count]);
+    noise(v, l, m, stack, column, &numbers[0..count]);
 }
 
-fn noise(v: &mut [i64], l: &mut [u32], stack: Stack, column: usize, draws: &[i64]) {
+fn noise(v: &mut [i64], l: &mut [u32], m: &mut [u64], stack: Stack, column: usize, draws: &[i64]) {
     let step = Step::Noise { column };
     let container = [0u8; 0];
     print_step(step, 0);
     with(draws);
-    given(v, l, stack);
-    let stepped = take_step(&container, draws, v, l, stack, step);
+    given(v, l, m, stack);
+    let stepped = take_step(&container, draws, v, l, m, stack, step);
     after(v, l, stepped);
 }
 
-fn stages_left(v: &[i64], l: &[u32], stack: Stack) {
+fn stages_left(v: &[i64], l: &[u32], m: &[u64], stack: Stack) {
     let top = memory::live_table(stack, 0);
     text(b"stages left");
-    given(v, l, stack);
+    given(v, l, m, stack);
     field(tally::stages_left(l, top.at, top.rows, top.columns) as usize);
 }
 
-fn first_over(v: &[i64], l: &[u32], stack: Stack) {
+fn first_over(v: &[i64], l: &[u32], m: &[u64], stack: Stack) {
     let top = memory::live_table(stack, 0);
     text(b"first OVER");
-    given(v, l, stack);
+    given(v, l, m, stack);
     place(tally::first_over(v, top.at, top.rows, top.columns));
 }
 
@@ -130,22 +170,22 @@ fn trace(step: usize) {
 }
 
 // So many values from a place on, in an output of five places that holds sevens.
-fn output(v: &[i64], l: &[u32], stack: Stack, count: usize, at: usize) {
+fn output(v: &[i64], l: &[u32], m: &[u64], stack: Stack, count: usize, at: usize) {
     let mut released = [7; 5];
     let labels = [0; 5];
     text(b"output of");
     field(count);
     text(b" from");
     field(at);
-    given(v, l, stack);
+    given(v, l, m, stack);
     done(tally::copy_out(v, at, count, &mut released));
     cells(&released, &labels, 0, 5);
 }
 
 // Work memory set to zero: its first cell, the last that is cleared, and the one behind it.
-fn clear(v: &mut [i64], l: &mut [u32]) {
+fn clear(v: &mut [i64], l: &mut [u32], m: &mut [u64]) {
     text(b"clear gives");
-    done(tally::clear_memory(v, l));
+    done(tally::clear_memory(v, l, m));
     cells(v, l, 0, 1);
     cells(v, l, 8191, 2);
 }

@@ -1,7 +1,7 @@
 // Runs steps on small tables. Each line of the input is a case: a step with its fields, a colon and the tables before it, as in `JOIN 0 =
 // 1: 2| 1:0 OVER:20020002 / -3:0 4:0; 1| 5:0`. A NOISE has its draws, `NOISE 0 with 5,-3: 1| 1:0`. Its line of the output has the case, as
 // it stands in memory, and its answer: the live tables after the step, a refusal with its row and column, or that the arguments do not fit.
-// A line `container` has the bytes of which SCAN reads so many. Behind the colon `8191 values,` or `8191 labels,` lends so many. Lines that
+// A line `container` has the bytes of which SCAN reads so many. Behind the colon `8191 values,`, `8191 labels,` or `1023 marks,` lends so many. Lines that
 // begin with `#` say something to the reader, and a line that can't be read is printed as such.
 mod answers;
 mod cases;

@@ -135,8 +135,8 @@ fn draw(index: usize, draw: i64) {
     number(draw);
 }
 
-// What a case is given: the values and labels that are lent, where they are too few, and its tables.
-pub fn given(values: &[i64], labels: &[u32], stack: Stack) {
+// What a case is given: the values, labels and marks that are lent, where they are too few, and its tables.
+pub fn given(values: &[i64], labels: &[u32], marks: &[u64], stack: Stack) {
     text(b":");
     if values.len() < 8192 {
         field(values.len());
@@ -145,6 +145,10 @@ pub fn given(values: &[i64], labels: &[u32], stack: Stack) {
     if labels.len() < 8192 {
         field(labels.len());
         text(b" labels,");
+    }
+    if marks.len() < 1024 {
+        field(marks.len());
+        text(b" marks,");
     }
     live(values, labels, stack);
     let depth = stack.depth;

@@ -44,7 +44,7 @@ pub fn decode(line: &[u8], digits: &[u8], bytes: usize, case: Case) {
     run(line, &container, bytes, case);
 }
 
-// What a word between tables is: 0 the columns of a table, 1 a cell, 13 neither of them though it looks so, or what it is by its name.
+// What a word between tables is: 0 the columns of a table, 1 a cell, 14 neither of them though it looks so, or what it is by its name.
 fn form(word: &[u8], named: usize) -> usize
     ensures { λ r. ⌜ r ≡ formOf (now (word .entry)) named ⌝ }
 {
@@ -52,17 +52,17 @@ fn form(word: &[u8], named: usize) -> usize
         return if number(10, part(word, b'|', 0)) < NONE {
             0
         } else {
-            13
+            14
         };
     }
     if count(word, b':') == 1 {
         if bits(part(word, b':', 0)) == NONE {
-            return 13;
+            return 14;
         }
         return if number(16, part(word, b':', 1)) < 0x1_0000_0000 {
             1
         } else {
-            13
+            14
         };
     }
     named
@@ -82,6 +82,7 @@ pub fn run(line: &[u8], container: &[u8], bytes: usize, case: Case) {
     let mut cells = 0;
     let mut v = 8200;
     let mut l = 8200;
+    let mut m = 1032;
     let mut from = wrapping_add_usize(part(line, b':', 0).len(), 2);
     while from < line.len() {
         let end = find(line, from, line.len(), b' ');
@@ -90,11 +91,12 @@ pub fn run(line: &[u8], container: &[u8], bytes: usize, case: Case) {
         let top = memory::live_table(stack, 0);
         let columns = top.columns;
         let read = number(10, part(word, b'|', 0)) as usize;
-        let names = b"| : # values, labels, more / .. of rows no tables one ";
+        let names = b"| : # values, labels, marks, more / .. of rows no tables one ";
         let kind = form(word, place(b' ', word, names));
         v = either(kind == 3, cells, v);
         l = either(kind == 4, cells, l);
-        stack.depth = either(kind == 5, 4, stack.depth);
+        m = either(kind == 5, cells, m);
+        stack.depth = either(kind == 6, 4, stack.depth);
         match kind {
             0 => {
                 stack = with_table(stack, stack.depth, read, 0);
@@ -120,7 +122,7 @@ pub fn run(line: &[u8], container: &[u8], bytes: usize, case: Case) {
                     stack = with_table(stack, top.slot, columns, read);
                 }
             }
-            3..=12 => {}
+            3..=13 => {}
             _ => {
                 unreadable(line);
                 return;
@@ -130,6 +132,7 @@ pub fn run(line: &[u8], container: &[u8], bytes: usize, case: Case) {
     let lent = Lent {
         values: v,
         labels: l,
+        marks: m,
         bytes,
     };
     print(&mut values, &mut labels, container, lent, stack, case);

@@ -6,7 +6,6 @@ use mathlib.Core.List.{List}
 use lib.Dec.{eqb, leb}
 use lib.ListN.{length}
 use borrow.Author.Tests.{leb-true, eqb-true}
-use Rattle.little_endian.specs.Bytes.{byteAt}
 use Rattle.table_part.specs.TablePart.{columnsOf, rowCount, headerFits}
 
 pub record Header (part : List ℕ) : Type 0 where
@@ -20,11 +19,9 @@ unfolding headerFits
 header part e =
     let columns = columnsOf part in
     let first = leb 4 (length part) && leb 1 columns in
-    let a = and-eq-true-iff (first && leb columns 8 && eqb (byteAt part 1) 0 && leb (rowCount part) 256)
-    (eqb (length part) (4 + 12 * (rowCount part * columns))) .0 e in
-    let b = and-eq-true-iff (first && leb columns 8 && eqb (byteAt part 1) 0) (leb (rowCount part) 256) .0 (a .0) in
-    let d = and-eq-true-iff (first && leb columns 8) (eqb (byteAt part 1) 0) .0 (b .0) in
-    let f = and-eq-true-iff first (leb columns 8) .0 (d .0) in
+    let a = and-eq-true-iff (first && leb columns 8 && leb (rowCount part) 256) (eqb (length part) (4 + 12 * (rowCount part * columns))) .0 e in
+    let b = and-eq-true-iff (first && leb columns 8) (leb (rowCount part) 256) .0 (a .0) in
+    let f = and-eq-true-iff first (leb columns 8) .0 (b .0) in
     record {
       some = leb-true 1 columns (and-eq-true-iff (leb 4 (length part)) (leb 1 columns) .0 (f .0) .1);
       few = leb-true columns 8 (f .1);

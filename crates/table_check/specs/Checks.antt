@@ -1,9 +1,10 @@
--- "Refused because of the input (place: a byte offset)": for each table 13, then for each cell 14, 15.
+-- "Refused because of the input (place: a byte offset)": for each table 13, then for each cell 14, 15; then #103's 20.
 use Prim.Native.Nat.{ℕ, zero, suc, _+_}
 use mathlib.Core.Bool.{not}
 use mathlib.Core.List.{List}
 use Rattle.input.specs.Verdict.{InputVerdict, accepted, andThen, rejectIf}
 use Rattle.label_words.specs.WellFormed.{wellFormed}
+use Rattle.sheet_check.specs.Sheets.{sheetsFit}
 use Rattle.table_part.specs.TablePart.{cellCount, headerFits, valuePlace, labelPlace, valueOf, labelOf}
 use Rattle.value.specs.Range.{inRange}
 
@@ -14,6 +15,8 @@ checkCells part at cell (suc more) =
     andThen (rejectIf (not (inRange (valueOf part cell))) 14 (at + valuePlace cell))
     (andThen (rejectIf (not (wellFormed (labelOf part cell))) 15 (at + labelPlace cell)) (checkCells part at (suc cell) more))
 
--- "13: table header or length. Place: the part."
+-- "13: table header or length. Place: the part." #103: "It refuses with 20, after all 14 and 15 of the table, when byte 1 names no column or a sheet
+-- cell is negative or not clear; the place is the table part."
 unfoldable pub checkTable : List ℕ → ℕ → InputVerdict
-checkTable part at = andThen (rejectIf (not (headerFits part)) 13 at) (checkCells part at 0 (cellCount part))
+checkTable part at =
+    andThen (rejectIf (not (headerFits part)) 13 at) (andThen (checkCells part at 0 (cellCount part)) (rejectIf (not (sheetsFit part)) 20 at))

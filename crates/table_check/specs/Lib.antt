@@ -1,2 +1,2 @@
--- The checks 13, 14 and 15. This file is what a reader must believe.
+-- The checks 13, 14, 15 and 20. This file is what a reader must believe.
 pub mod Checks

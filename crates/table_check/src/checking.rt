@@ -11,9 +11,9 @@ ghost use Rattle.value.specs.Pattern.{signedOf};
 ghost use Rattle.value.specs.Range.{inRange};
 use input::InputCheck;
 use input::InputRefusal;
-use little_endian::byte;
 use little_endian::eight;
 use little_endian::four;
+use sheet_check::sheets_fit;
 use table_part::cell_count;
 use table_part::shape_of;
 
@@ -26,7 +26,6 @@ fn header_fits(table: &[u8]) -> bool
     (4 <= len)
         & (1 <= shape.columns)
         & (shape.columns <= 8)
-        & (byte(table, 1) == 0)
         & (shape.rows <= 256)
         & (len == 4 + 12 * cell_count(table) as usize)
 }
@@ -76,7 +75,7 @@ fn check_cells(table: &[u8], at: usize, rows: usize, columns: usize) -> InputChe
     found
 }
 
-// 13, 14 and 15 of a table part that begins at `at`.
+// 13, 14, 15 and 20 of a table part that begins at `at`.
 pub fn check_table(table: &[u8], at: u32) -> InputCheck
     ensures { λ r. ⌜ inputSays r ≡ checkTable (now (table .entry)) at ⌝ }
 {
@@ -85,5 +84,12 @@ pub fn check_table(table: &[u8], at: u32) -> InputCheck
         return InputCheck::Refused(InputRefusal::Table(place));
     }
     let shape = shape_of(table);
-    check_cells(table, place, shape.rows, shape.columns)
+    let found = check_cells(table, place, shape.rows, shape.columns);
+    let InputCheck::Accepted = found else {
+        return found;
+    };
+    if !sheets_fit(table) {
+        return InputCheck::Refused(InputRefusal::Sheets(place));
+    }
+    InputCheck::Accepted
 }

@@ -1,5 +1,5 @@
 -- The definitions of this crate, said of tables in memory and of lists of trace lines. Assumes nothing.
-use Prim.Native.Nat.{ℕ, zero, suc, _+_, _-_, _*_, _≤_}
+use Prim.Native.Nat.{ℕ, suc, _+_, _-_, _*_, _≤_}
 use mathlib.Core.Path.{_≡_, refl, sym, ap, ap₂, _∙_}
 use mathlib.Core.Bool.{Bool, true, cond, not}
 use mathlib.Core.List.{List, [], _∷_, _++_, map, append-assoc}
@@ -21,8 +21,8 @@ use Rattle.tally.specs.promises.Stages.{stagesAt}
 use Rattle.tally.specs.Zeros.{filled}
 use Rattle.value.specs.Range.{inRange}
 use Rattle.cells.proofs.CellLaws.{cells-drop, values-front, le-within}
-use Rattle.cells.proofs.RowReads.{flat-rows}
-use Rattle.cells.proofs.Rows.{grid-rows}
+use Rattle.cells.proofs.RowReads.{flat-marked}
+use Rattle.cells.proofs.Rows.{marked-grid}
 
 -- ---- cells and their values
 
@@ -30,36 +30,40 @@ over-cells : (row column : ℕ) (cells : List Cell) → overIn row column cells 
 over-cells row column [] = refl
 over-cells row column (cell ∷ rest) = ap (orElse (refuseIf (not (inRange (cell .value))) 36 row column)) (over-cells row (suc column) rest)
 
-over-rows : (first columns rows : ℕ) (vs : List ℤ) (ls : List ℕ) → rows * columns ≤ length ls
-    → firstOver first (rowsOf columns rows (cellsOf vs ls)) ≡ firstOverIn first columns rows vs
-over-rows first columns zero vs ls h = refl
-over-rows first columns (suc rows) vs ls h =
+over-rows : (first columns : ℕ) (marks : List ℕ) (vs : List ℤ) (ls : List ℕ) → length marks * columns ≤ length ls
+    → firstOver first (rowsOf columns marks (cellsOf vs ls)) ≡ firstOverIn first columns (length marks) vs
+over-rows first columns [] vs ls h = refl
+over-rows first columns (mark ∷ marks) vs ls h =
     ap₂ orElse (over-cells first 0 (take columns (cellsOf vs ls)) ∙ ap (overFrom first 0) (values-front (work vs ls) columns (omega arith)))
-    (ap (λ (l : List Cell). firstOver (suc first) (rowsOf columns rows l)) (sym (cells-drop columns vs ls))
-    ∙ over-rows (suc first) columns rows (drop columns vs) (drop columns ls) (simp length-drop (omega arith)))
+    (ap (λ (l : List Cell). firstOver (suc first) (rowsOf columns marks l)) (sym (cells-drop columns vs ls))
+    ∙ over-rows (suc first) columns marks (drop columns vs) (drop columns ls) (simp length-drop (omega arith)))
 
 -- ---- a table in memory
 
 pub table-fits : (at rows columns n : ℕ) → rows ≤ 256 → columns ≤ 8 → at + rows * columns ≤ n → tableWithin at rows columns n ≡ true
 table-fits at rows columns n r c h = rw (le-leb rows 256 r, le-leb columns 8 c, le-within at (rows * columns) n h)
 
-module _ (w : Work) (at columns rows : ℕ) where
+-- whatever the marks of its rows
+module _ (w : Work) (at columns rows : ℕ) (marks : List ℕ) (as-many : length marks ≡ rows) where
   -- the stages left on it
   pub table-stages : tableWithin at rows columns (length (w .labels)) ≡ true → at + rows * columns ≤ length (w .values)
-      → stagesLeft (map labelsOf (rowsOf columns rows (drop at (cellsIn w)))) ≡ stagesAt (w .labels) at rows columns
+      → stagesLeft (map labelsOf (rowsOf columns marks (drop at (cellsIn w)))) ≡ stagesAt (w .labels) at rows columns
   table-stages e h =
-      rw (e, ← cells-drop at (w .values) (w .labels)) (ap stagesLeft (grid-rows columns rows (drop at (w .values)) (drop at (w .labels)) (simp length-drop (omega arith))))
+      rw (e, ← cells-drop at (w .values) (w .labels), ← as-many)
+      (ap stagesLeft (marked-grid columns marks (drop at (w .values)) (drop at (w .labels)) (rw as-many (simp length-drop (omega arith)))))
 
   -- its first OVER cell
   pub table-over : (first : ℕ) → at + rows * columns ≤ length (w .labels)
-      → firstOver first (rowsOf columns rows (drop at (cellsIn w))) ≡ firstOverIn first columns rows (drop at (w .values))
-  table-over first h = rw (← cells-drop at (w .values) (w .labels)) (over-rows first columns rows (drop at (w .values)) (drop at (w .labels)) (simp length-drop (omega arith)))
+      → firstOver first (rowsOf columns marks (drop at (cellsIn w))) ≡ firstOverIn first columns rows (drop at (w .values))
+  table-over first h =
+      rw (← cells-drop at (w .values) (w .labels), ← as-many)
+      (over-rows first columns marks (drop at (w .values)) (drop at (w .labels)) (rw as-many (simp length-drop (omega arith))))
 
   -- its values, row by row
   pub table-values : at + rows * columns ≤ length (w .labels)
-      → map (λ cell. cell .value) (flat (rowsOf columns rows (drop at (cellsIn w)))) ≡ take (rows * columns) (drop at (w .values))
+      → map (λ cell. cell .value) (flat (rowsOf columns marks (drop at (cellsIn w)))) ≡ take (rows * columns) (drop at (w .values))
   table-values h =
-      rw (flat-rows columns rows (drop at (cellsIn w)), ← cells-drop at (w .values) (w .labels))
+      rw (flat-marked columns marks (drop at (cellsIn w)), as-many, ← cells-drop at (w .values) (w .labels))
       (values-front (work (drop at (w .values)) (drop at (w .labels))) (rows * columns) (simp length-drop (omega arith)))
 
 -- ---- trace lines

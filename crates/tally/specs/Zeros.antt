@@ -1,4 +1,4 @@
--- "Both leave the first 8,192 elements of both work slices zero".
+-- "Both leave the first 8,192 elements of both work slices zero"; #103's slice of marks is "left zero".
 use Prim.Native.Nat.{ℕ}
 use mathlib.Core.List.{List, _++_}
 use lib.ListN.{drop, replicate}

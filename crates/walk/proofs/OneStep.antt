@@ -7,7 +7,7 @@ use lib.IntN.{ℤ}
 use lib.ListN.{length, drop}
 use Rattle.input.specs.Verdict.{accepted}
 use Rattle.layout.specs.Layout.{partOf}
-use Rattle.cells.specs.promises.Work.{Work, work, room}
+use Rattle.cells.specs.promises.Work.{Memory, memoryOf, room, markRoom}
 use Rattle.memory.specs.promises.Stack.{Ready, stackIn}
 use Rattle.memory.specs.promises.Steps.{stepSays, verdict, Done}
 use Rattle.memory.specs.declared.Stack.{Stack}
@@ -41,8 +41,8 @@ module _ (given : Given) (index : ℕ) (ok : checkGiven given ≡ accepted) (h :
   pub found-nothing : f ≡ found.Nothing → ⊥
   found-nothing s = let t = there in let z : _≡_ {A = ℕ} 0 1 = cc in omega arith
 
-module _ {given : Given} (index used : ℕ) {w : Work} {stack : Stack} (s : Steady given (stepNumber given index) w stack) {known : Step} (e : known ≡ stepNumber given index)
-    {done : Stepped} {w′ : Work} (t : Taken (given .container) (drop used (given .draws)) known w stack done w′) where
+module _ {given : Given} (index used : ℕ) {w : Memory} {stack : Stack} (s : Steady given (stepNumber given index) w stack) {known : Step} (e : known ≡ stepNumber given index)
+    {done : Stepped} {w′ : Memory} (t : Taken (given .container) (drop used (given .draws)) known w stack done w′) where
   pub done-so : Done (stepNumber given index) (leftGiven given used) w stack done w′
   done-so = taken-done used (stepNumber given index) s (subst (λ (k : Step). Taken (given .container) (drop used (given .draws)) k w stack done w′) e t)
 
@@ -57,9 +57,10 @@ module _ {given : Given} (index used : ℕ) {w : Work} {stack : Stack} (s : Stea
         let more = ap length (done-so .made (s .fits-is) allowed .tables-are) in
         omega (arith, n, more)
 
-    pub still-ready : Ready (length (w′ .values)) (length (w′ .labels)) (done .stack)
-    still-ready = is-ready (length (w′ .values)) (length (w′ .labels)) (done .stack) (done-so .made (s .fits-is) allowed .still)
+    pub still-ready : Ready (length (w′ .work .values)) (length (w′ .work .labels)) (done .stack)
+    still-ready = is-ready (length (w′ .work .values)) (length (w′ .work .labels)) (done .stack) (done-so .made (s .fits-is) allowed .still)
 
-    pub line-made : (t : List ℕ) {t′ : List ℕ} → ((values : List ℤ) → room ≤ length values → t′ ≡ withLine index (lineOf known (top (stackIn (work values (w′ .labels)) (done .stack)))) t)
+    pub line-made : (t : List ℕ) {t′ : List ℕ} → markRoom ≤ length (w′ .marks) → ((values : List ℤ) (marks : List ℕ) → room ≤ length values → markRoom ≤ length marks
+        → t′ ≡ withLine index (lineOf known (top (stackIn (memoryOf values (w′ .work .labels) marks) (done .stack)))) t)
         → t′ ≡ withLine index (lineOf (stepNumber given index) (top (stackIn w′ (done .stack)))) t
-    line-made t e′ = e′ (w′ .values) (still-ready .values-room) ∙ ap (λ (k : Step). withLine index (lineOf k (top (stackIn w′ (done .stack)))) t) e
+    line-made t room-is e′ = e′ (w′ .work .values) (w′ .marks) (still-ready .values-room) room-is ∙ ap (λ (k : Step). withLine index (lineOf k (top (stackIn w′ (done .stack)))) t) e

@@ -14,8 +14,8 @@ use Rattle.input.specs.Verdict.{accepted}
 use Rattle.layout.specs.Layout.{partOf}
 use Rattle.cells.specs.promises.Labelled.{Labelled}
 use Rattle.cells.specs.promises.Search.{says}
-use Rattle.cells.specs.promises.Work.{Work, room}
-use Rattle.memory.specs.promises.Stack.{ready, Ready, noTable, tableIn, tablesTo, stackIn, widthsTo, noTables, liveAt, liveTable}
+use Rattle.cells.specs.promises.Work.{Memory, cellsIn, room, markRoom, AllKept}
+use Rattle.memory.specs.promises.Stack.{ready, Ready, slot, markSlot, markPart, noTable, tableIn, tablesTo, stackIn, widthsTo, noTables, liveAt, liveTable}
 use Rattle.memory.specs.declared.LiveTable.{LiveTable}
 use Rattle.memory.specs.declared.Refusal.{Refusal}
 use Rattle.memory.specs.promises.Steps.{stepSays, verdict, widthsOf, Done}
@@ -42,10 +42,10 @@ use Rattle.accepted.proofs.AcceptedOperations.{operations-exist}
 use Rattle.accepted.proofs.AcceptedPlan.{plan-placed, steps-counted}
 use Rattle.walk.proofs.LabelledSteps.{make-labelled, tables-labelled}
 use Rattle.demands.proofs.Widths.{each-drop, placed-after}
-use Rattle.cells.proofs.Rows.{rows-length}
-use Rattle.cells.proofs.CellLaws.{kept-none, kept-then}
+use Rattle.cells.proofs.Rows.{marked-length}
+use Rattle.cells.proofs.CellLaws.{all-none, kept-then, marks-then}
 use Rattle.memory.proofs.Finish.{says-is, never-unfit, verdicts}
-use Rattle.memory.proofs.Stacks.{is-ready, to-ready, widths-are, stack-length}
+use Rattle.memory.proofs.Stacks.{is-ready, to-ready, widths-are, stack-length, marks-count}
 use Rattle.plan.proofs.SenseNoise.{draws-enough}
 use Rattle.plan.proofs.SenseShape.{each-get}
 use Rattle.tally.proofs.Laws.{lines-length, line-fits, line-behind}
@@ -115,15 +115,16 @@ used-more given used n =
     ap (supplied (prepared given)) (drop-drop n used (given .draws))
 
 -- the rows of the table on top, as `live_table` gives them
-pub top-rows : {values labels : ℕ} (w : Work) (stack : Stack) → Ready values labels stack → {table : LiveTable} → table ≡ liveTable stack 0 → table .rows ≡ length (top (stackIn w stack) .rows)
+pub top-rows : {values labels : ℕ} (w : Memory) (stack : Stack) → Ready values labels stack → markRoom ≤ length (w .marks) → {table : LiveTable} → table ≡ liveTable stack 0 → table .rows ≡ length (top (stackIn w stack) .rows)
 unfolding liveTable
-top-rows w stack r {table} e = ap (λ (t : LiveTable). t .rows) e ∙ go (stack .depth) (r .depth)
+top-rows w stack r marks {table} e = ap (λ (t : LiveTable). t .rows) e ∙ go (stack .depth) (r .depth)
   where
     go : (depth : ℕ) → depth ≤ 3 → cond (leb depth 3 && ltb 0 depth) (liveAt stack (depth - 1 - 0)) noTable .rows ≡ length (top (tablesTo w stack depth) .rows)
     go zero h = refl
     go (suc depth) h =
         let d : suc depth - 1 - 0 ≡ depth = omega arith in
-        rw (le-leb (suc depth) 3 h, lt-ltb 0 (suc depth) (omega arith), d) (sym (rows-length _ _ _))
+        rw (le-leb (suc depth) 3 h, lt-ltb 0 (suc depth) (omega arith), d) (sym (marked-length (getD (stack .columns) depth 0) (markPart (w .marks) (markSlot depth) (getD (stack .rows) depth 0)) (drop (slot depth) (cellsIn (w .work)))
+        ∙ marks-count (w .marks) (markSlot depth) (getD (stack .rows) depth 0) (omega (arith, r .rows depth h))))
 
 -- the trace of so many lines, as a run leaves it
 lines-written : (lines : List Line) (t₀ t : List ℕ) → t ≡ flatLines lines ++ drop (4 * length lines) t₀ → t ≡ written (flatLines lines) t₀
@@ -135,18 +136,24 @@ pub count-is : (given : Given) → checkGiven given ≡ accepted → {part : Lis
 count-is given ok p e = let n = e ∙ ap stepCount p in let few = steps-counted (given .container) ok in (n ∙ sym (few .2), omega (arith, n, few))
 
 -- the lengths that are tested
-rooms : (w : Work) (t : List ℕ) → roomIn w t ≡ true → (leb room (length (w .values)) ≡ true) × (leb room (length (w .labels)) ≡ true) × (leb 256 (length t) ≡ true)
+rooms : (w : Memory) (t : List ℕ) → roomIn w t ≡ true
+    → (leb room (length (w .work .values)) ≡ true) × (leb room (length (w .work .labels)) ≡ true) × (leb 256 (length t) ≡ true) × (markRoom ≤ length (w .marks))
 rooms w t e =
-    let a = and-eq-true-iff (leb room (length (w .values)) && leb room (length (w .labels))) (leb 256 (length t)) .0 e in
-    let b = and-eq-true-iff (leb room (length (w .values))) (leb room (length (w .labels))) .0 (a .0) in
-    (b .0, b .1, a .1)
+    let two = leb room (length (w .work .values)) && leb room (length (w .work .labels)) in
+    let a = and-eq-true-iff (two && leb markRoom (length (w .marks))) (leb 256 (length t)) .0 e in
+    let m = and-eq-true-iff two (leb markRoom (length (w .marks))) .0 (a .0) in
+    let b = and-eq-true-iff (leb room (length (w .work .values))) (leb room (length (w .work .labels))) .0 (m .0) in
+    (b .0, b .1, a .1, leb-true markRoom (length (w .marks)) (m .1))
 
-module _ {given : Given} (ok : checkGiven given ≡ accepted) {w₀ : Work} {t₀ : List ℕ} (long : roomIn w₀ t₀ ≡ true) where
+pub all-then : {first then last : Memory} → AllKept first then → AllKept then last → AllKept first last
+all-then a b = record { work = kept-then (a .work) (b .work); marks = marks-then (a .marks) (b .marks) }
+
+module _ {given : Given} (ok : checkGiven given ≡ accepted) {w₀ : Memory} {t₀ : List ℕ} (long : roomIn w₀ t₀ ≡ true) where
   begun : Going given w₀ t₀ 0 0 w₀ t₀ noTables
   unfolding noTables evaluation evaluate ready
   begun = record {
-    kept = kept-none w₀;
-    is-ready = is-ready (length (w₀ .values)) (length (w₀ .labels)) noTables (rw (rooms w₀ t₀ long .0, rooms w₀ t₀ long .1));
+    kept = all-none w₀;
+    is-ready = is-ready (length (w₀ .work .values)) (length (w₀ .work .labels)) noTables (rw (rooms w₀ t₀ long .0, rooms w₀ t₀ long .1));
     labelled = tt;
     lines = [];
     finished = refl;
@@ -160,7 +167,7 @@ module _ {given : Given} (ok : checkGiven given ≡ accepted) {w₀ : Work} {t�
   pub go-begin : {stack : Stack} → stack ≡ noTables → Going given w₀ t₀ 0 0 w₀ t₀ stack
   go-begin e = subst (Going given w₀ t₀ 0 0 w₀ t₀) (sym e) begun
 
-  module _ {index used : ℕ} {w : Work} {t : List ℕ} {stack : Stack} (g : Going given w₀ t₀ index used w t stack) where
+  module _ {index used : ℕ} {w : Memory} {t : List ℕ} {stack : Stack} (g : Going given w₀ t₀ index used w t stack) where
     abbrev tables : List Table
     tables = prepared given
 
@@ -175,6 +182,10 @@ module _ {given : Given} (ok : checkGiven given ≡ accepted) {w₀ : Work} {t�
 
     abbrev rest : List Step
     rest = drop (suc index) (planGiven given)
+
+    -- the marks are as many as they were
+    pub go-marks : markRoom ≤ length (w .marks)
+    go-marks = omega (arith, rooms w₀ t₀ long .3, g .kept .marks .as-many)
 
     module _ (h : index < length (planGiven given)) where
       places-next : Placed (widthsOf tables) (widthsOf live) (next ∷ rest)
@@ -195,7 +206,7 @@ module _ {given : Given} (ok : checkGiven given ≡ accepted) {w₀ : Work} {t�
           = ap (placed next (widthsOf tables)) (sym (widths-are w stack (stack .depth))) ∙ places-next .2 in
           record {
             accepted-is = ok;
-            fits-is = rw (to-ready (length (w .values)) (length (w .labels)) stack (g .is-ready), enough, there);
+            fits-is = rw (le-leb markRoom (length (w .marks)) go-marks, to-ready (length (w .work .values)) (length (w .work .labels)) stack (g .is-ready), enough, there);
             exists = each-get (λ step. operationExists step ≡ true) (planGiven given) index Union refl (operations-exist (given .container) ok);
             labelled = g .labelled;
           }
@@ -207,7 +218,7 @@ module _ {given : Given} (ok : checkGiven given ≡ accepted) {w₀ : Work} {t�
           g .onward
           ∙ ap (before (g .lines)) (ap (evaluateFrom supply index live) (drop-next (planGiven given) index Union h) ∙ evaluate-next supply index live next rest)
 
-      module _ {done : Stepped} {w′ : Work} (d : Done next supply w stack done w′) where
+      module _ {done : Stepped} {w′ : Memory} (d : Done next supply w stack done w′) where
         says-so : stepSays (done .answer) ≡ says (verdict next supply live)
         says-so = d .answer (go-steady .fits-is)
 
@@ -232,8 +243,8 @@ module _ {given : Given} (ok : checkGiven given ≡ accepted) {w₀ : Work} {t�
               let count : length (g .lines ++ (line ∷ [])) ≡ length (g .lines) + 1 = length-append (g .lines) (line ∷ []) in
               let onwards : supplyAfter next live supply ≡ leftGiven given (used + n) = ap (λ (k : ℕ). withoutDraws k supply) (sym e) ∙ used-more given used n in
               record {
-                kept = kept-then (g .kept) (d .kept);
-                is-ready = is-ready (length (w′ .values)) (length (w′ .labels)) (done .stack) (d .made (go-steady .fits-is) allowed .still);
+                kept = all-then (g .kept) (d .kept);
+                is-ready = is-ready (length (w′ .work .values)) (length (w′ .work .labels)) (done .stack) (d .made (go-steady .fits-is) allowed .still);
                 labelled = subst (Each Labelled) (sym after) (make-labelled next supply live (tables-labelled given ok) (g .labelled), each-drop Labelled (takes next) live (g .labelled));
                 lines = g .lines ++ (line ∷ []);
                 finished = omega (arith, count, g .finished);
@@ -269,7 +280,7 @@ module _ {given : Given} (ok : checkGiven given ≡ accepted) {w₀ : Work} {t�
               record {
                 long = long;
                 accepted-is = ok;
-                kept = kept-then (g .kept) (d .kept);
+                kept = all-then (g .kept) (d .kept);
                 traced = lines-written (g .lines) t₀ t (g .traced) ∙ ap (λ (lines : List Line). written (flatLines lines) t₀) (sym traces);
               },
               ap (λ (r : Result). r .outcome) comes ∙ before-outcome (g .lines) _ ∙ sym (v .tells (λ number row column. refuse number index row column)),

@@ -1,12 +1,12 @@
 // The trace line of a finished step.
 ghost use mathlib.Core.List.{List};
 ghost use mathlib.Core.Path.{_≡_};
-ghost use Prim.Native.Nat.{_+_, _*_, _≤_};
+ghost use Prim.Native.Nat.{ℕ, _+_, _*_, _≤_};
 ghost use lib.IntN.{ℤ};
 ghost use lib.ListN.{length};
 ghost use Rattle.plan.specs.Table.{top};
 ghost use Rattle.plan.specs.Trace.{lineOf};
-ghost use Rattle.cells.specs.promises.Work.{work, room};
+ghost use Rattle.cells.specs.promises.Work.{memoryOf, room, markRoom};
 ghost use Rattle.memory.specs.promises.Stack.{Ready, stackIn};
 ghost use Rattle.tally.specs.promises.Lines.{withLine};
 use memory::Stack;
@@ -15,8 +15,8 @@ use plan::Step;
 // Writes the line of step number `index`, whose table is on top of the stack.
 pub fn write_step(labels: &[u32], trace: &mut [u32], stack: Stack, index: usize, step: Step)
     requires { ⌜ (1 ≤ stack .depth) × (4 * index + 4 ≤ length (now trace)) × Ready room (length (now labels)) stack ⌝ }
-    ensures { λ _. ⌜ ((values : List ℤ) → room ≤ length values
-        → now (trace .exit) ≡ withLine index (lineOf step (top (stackIn (work values (now (labels .entry))) stack)))
+    ensures { λ _. ⌜ ((values : List ℤ) (marks : List ℕ) → room ≤ length values → markRoom ≤ length marks
+        → now (trace .exit) ≡ withLine index (lineOf step (top (stackIn (memoryOf values (now (labels .entry)) marks) stack)))
         (now (trace .entry))) ⌝ }
 {
     let table = memory::live_table(stack, 0);

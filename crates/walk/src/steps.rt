@@ -5,7 +5,7 @@ ghost use mathlib.Core.List.{List};
 ghost use Prim.Native.Nat.{_<_};
 ghost use lib.IntN.{ℤ};
 ghost use lib.ListN.{length};
-ghost use Rattle.cells.specs.promises.Work.{work};
+ghost use Rattle.cells.specs.promises.Work.{memoryOf};
 ghost use Rattle.demands.specs.Given.{given, checkGiven, planGiven};
 ghost use Rattle.input.specs.Verdict.{accepted};
 ghost use Rattle.walk.specs.promises.Walk.{walkRoom, stepNumber, Walked};
@@ -17,32 +17,33 @@ use plan::Step;
 use records::Found;
 
 // Takes the steps of a container's plan, with draws for its NOISE steps, and writes the lines of those that are finished to the trace's
-// start. Work memory and the trace are long enough where they have 8,192 and 256 elements.
+// start. Work memory and the trace are long enough where they have 8,192 elements, 1,024 marks and 256 elements.
 pub fn walk(
     container: &[u8],
     draws: &[i64],
     values: &mut [i64],
     labels: &mut [u32],
+    marks: &mut [u64],
     trace: &mut [u32],
 ) -> WalkAnswer
-    ensures { λ r. ⌜ Walked (given (now (container .entry)) (now (draws .entry))) (work (now (values .entry)) (now (labels .entry)))
-        (now (trace .entry)) r
-        (work (now (values .exit)) (now (labels .exit))) (now (trace .exit)) ⌝ }
+    ensures { λ r. ⌜ Walked (given (now (container .entry)) (now (draws .entry)))
+        (memoryOf (now (values .entry)) (now (labels .entry)) (now (marks .entry))) (now (trace .entry)) r
+        (memoryOf (now (values .exit)) (now (labels .exit)) (now (marks .exit))) (now (trace .exit)) ⌝ }
 {
-    if !has_room(values.len(), labels.len(), trace.len()) {
+    if !has_room(values.len(), labels.len(), marks.len(), trace.len()) {
         return WalkAnswer::TooShort;
     }
     match container::check_input(container) {
         InputCheck::Refused(refusal) => WalkAnswer::Input(refusal),
-        InputCheck::Accepted => take_steps(container, draws, values, labels, trace),
+        InputCheck::Accepted => take_steps(container, draws, values, labels, marks, trace),
     }
 }
 
 // Whether each slice has the elements that a walk needs.
-fn has_room(values: usize, labels: usize, trace: usize) -> bool
-    ensures { λ r. ⌜ r ≡ walkRoom values labels trace ⌝ }
+fn has_room(values: usize, labels: usize, marks: usize, trace: usize) -> bool
+    ensures { λ r. ⌜ r ≡ walkRoom values labels marks trace ⌝ }
 {
-    (8192 <= values) & (8192 <= labels) & (256 <= trace)
+    (8192 <= values) & (8192 <= labels) & (1024 <= marks) & (256 <= trace)
 }
 
 // Takes the steps of an accepted container's plan.
@@ -51,13 +52,14 @@ fn take_steps(
     draws: &[i64],
     values: &mut [i64],
     labels: &mut [u32],
+    marks: &mut [u64],
     trace: &mut [u32],
 ) -> WalkAnswer
     requires { ⌜ (checkGiven (given (now container) (now draws)) ≡ accepted)
-        × (walkRoom (length (now values)) (length (now labels)) (length (now trace)) ≡ true) ⌝ }
-    ensures { λ r. ⌜ Walked (given (now (container .entry)) (now (draws .entry))) (work (now (values .entry)) (now (labels .entry)))
-        (now (trace .entry)) r
-        (work (now (values .exit)) (now (labels .exit))) (now (trace .exit)) ⌝ }
+        × (walkRoom (length (now values)) (length (now labels)) (length (now marks)) (length (now trace)) ≡ true) ⌝ }
+    ensures { λ r. ⌜ Walked (given (now (container .entry)) (now (draws .entry)))
+        (memoryOf (now (values .entry)) (now (labels .entry)) (now (marks .entry))) (now (trace .entry)) r
+        (memoryOf (now (values .exit)) (now (labels .exit)) (now (marks .exit))) (now (trace .exit)) ⌝ }
 {
     let count = plan_part::step_count(layout::part(container, 0));
     let mut stack = memory::no_tables();
@@ -66,7 +68,15 @@ fn take_steps(
     while index < count {
         let next = step_number(container, index);
         let top = memory::live_table(stack, 0);
-        let stepped = step::take_step(container, &draws[used..], values, labels, stack, next);
+        let stepped = step::take_step(
+            container,
+            &draws[used..],
+            values,
+            labels,
+            marks,
+            stack,
+            next,
+        );
         let answer = stepped.answer;
         match answer {
             StepAnswer::Refused(refusal) => {

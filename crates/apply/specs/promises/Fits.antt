@@ -2,7 +2,7 @@
 use Prim.Native.Nat.{ℕ}
 use mathlib.Core.Bool.{Bool, _&&_}
 use mathlib.Core.List.{List}
-use Rattle.cells.specs.promises.Work.{Work}
+use Rattle.cells.specs.promises.Work.{Memory}
 use Rattle.operations.specs.promises.Operations.{operationFits}
 use Rattle.memory.specs.declared.Stack.{Stack}
 use Rattle.memory.specs.promises.Stack.{topFormed}
@@ -13,8 +13,8 @@ use Rattle.plan.specs.declared.Step.the-variants.{Apply}
 use Rattle.plan.specs.declared.Transform.{Transform}
 
 -- the operation exists, and every label of the column in the top table is well-formed
-abbrev pub operandsFit : ℕ → Transform → Work → Stack → Bool
-operandsFit column transform work stack = operationFits transform && topFormed column work stack
+abbrev pub operandsFit : ℕ → Transform → Memory → Stack → Bool
+operandsFit column transform memory stack = operationFits transform && topFormed column memory stack
 
-abbrev pub applyFits : ℕ → Transform → Supply → Work → Stack → Bool
-applyFits column transform supply work stack = fitsIn (Apply column transform) supply work stack && operandsFit column transform work stack
+abbrev pub applyFits : ℕ → Transform → Supply → Memory → Stack → Bool
+applyFits column transform supply memory stack = fitsIn (Apply column transform) supply memory stack && operandsFit column transform memory stack

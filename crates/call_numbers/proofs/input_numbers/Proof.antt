@@ -25,6 +25,9 @@ enum-known-refusal-4 c = search needs
 enum-known-refusal-5 : tie.Need-enum-known-refusal-5
 enum-known-refusal-5 c = search needs
 
+enum-known-refusal-6 : tie.Need-enum-known-refusal-6
+enum-known-refusal-6 c = search needs
+
 plan-numbers-requires : tie.Need-plan-numbers-requires
 plan-numbers-requires c κs = search needs
 
@@ -44,7 +47,10 @@ returns-5 : tie.Need-returns-5
 returns-5 c = (sym (ap (inputTells two) (c .before .refusal4 .given .1)), omega arith)
 
 returns-6 : tie.Need-returns-6
-returns-6 c = (c .plan-numbers .ensures .0 ∙ sym (ap (inputTells two) (c .before .before .refusal5 .given .1)), c .plan-numbers .ensures .1)
+returns-6 c = (sym (ap (inputTells two) (c .before .refusal5 .given .1)), omega arith)
+
+returns-7 : tie.Need-returns-7
+returns-7 c = (c .plan-numbers .ensures .0 ∙ sym (ap (inputTells two) (c .before .before .refusal6 .given .1)), c .plan-numbers .ensures .1)
 
 pub input-numbers-spec : {M : Type 1} → statement M
 input-numbers-spec =
@@ -56,10 +62,12 @@ input-numbers-spec =
     enum-known-refusal-3
     enum-known-refusal-4
     enum-known-refusal-5
+    enum-known-refusal-6
     plan-numbers-requires
     returns
     returns-2
     returns-3
     returns-4
     returns-5
-    returns-6)
+    returns-6
+    returns-7)

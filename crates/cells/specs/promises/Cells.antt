@@ -5,7 +5,7 @@ use mathlib.Core.Bool.{Bool, _&&_, _||_}
 use mathlib.Core.List.{List, [], _∷_, _++_}
 use lib.Dec.{leb}
 use lib.IntN.{ℤ}
-use lib.ListN.{length, take, drop}
+use lib.ListN.{length, take, drop, replicate}
 use Rattle.plan.specs.Table.{Cell, Row, rowsOf}
 
 -- as long as the shorter of the two
@@ -14,12 +14,22 @@ cellsOf [] labels = []
 cellsOf (value ∷ values) [] = []
 cellsOf (value ∷ values) (label ∷ labels) = record { value = value; label = label } ∷ cellsOf values labels
 
+-- a row of these cells, and so many rows of cells, without marks: what reads cells alone
+abbrev pub bareRow : List Cell → Row
+bareRow cells = record { cells = cells; mark = 0 }
+
+abbrev pub noMarks : ℕ → List ℕ
+noMarks rows = replicate rows 0
+
+abbrev pub bareRows : ℕ → ℕ → List Cell → List Row
+bareRows columns rows cells = rowsOf columns (noMarks rows) cells
+
 -- the row of so many columns whose first cell stands at a place, and the rows of a table of so many columns and rows from there on
 abbrev pub rowFrom : ℕ → List Cell → ℕ → Row
-rowFrom columns memory place = record { cells = take columns (drop place memory) }
+rowFrom columns memory place = bareRow (take columns (drop place memory))
 
 abbrev pub tableRows : ℕ → ℕ → List Cell → ℕ → List Row
-tableRows columns rows memory place = rowsOf columns rows (drop place memory)
+tableRows columns rows memory place = bareRows columns rows (drop place memory)
 
 -- a row of so many columns
 abbrev pub Wide : ℕ → Row → Type 0

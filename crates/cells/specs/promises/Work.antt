@@ -1,4 +1,4 @@
--- The contents of work memory, under one name: the slices lent for a run in which its tables stand.
+-- The contents of work memory, under one name: the slices lent for a run in which its tables stand, and #103's marks beside them.
 use Prim.Native.Nat.{ℕ}
 use mathlib.Core.Path.{_≡_}
 use mathlib.Core.List.{List}
@@ -28,3 +28,23 @@ pub record Kept (before after : Work) : Type 0 where
   pub as-many-labels : length (after .labels) ≡ length (before .labels)
   pub values-past : drop room (after .values) ≡ drop room (before .values)
   pub labels-past : drop room (after .labels) ≡ drop room (before .labels)
+
+-- work memory with the marks of its rows
+pub record Memory : Type 0 where
+  pub work : Work
+  pub marks : List ℕ
+
+abbrev pub memoryOf : List ℤ → List ℕ → List ℕ → Memory
+memoryOf values labels marks = record { work = work values labels; marks = marks }
+
+-- "A further work slice of 1,024 marks": four slots of 256 rows
+abbrev pub markRoom : ℕ
+markRoom = 1024
+
+pub record MarksKept (before after : List ℕ) : Type 0 where
+  pub as-many : length after ≡ length before
+  pub past : drop markRoom after ≡ drop markRoom before
+
+pub record AllKept (before after : Memory) : Type 0 where
+  pub work : Kept (before .work) (after .work)
+  pub marks : MarksKept (before .marks) (after .marks)

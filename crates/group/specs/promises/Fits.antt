@@ -2,7 +2,7 @@
 use Prim.Native.Nat.{ℕ}
 use mathlib.Core.Bool.{Bool, _&&_}
 use mathlib.Core.List.{List}
-use Rattle.cells.specs.promises.Work.{Work}
+use Rattle.cells.specs.promises.Work.{Memory}
 use Rattle.memory.specs.declared.Stack.{Stack}
 use Rattle.memory.specs.promises.Stack.{topFormed}
 use Rattle.memory.specs.promises.Steps.{fitsIn}
@@ -12,5 +12,5 @@ use Rattle.plan.specs.declared.Aggregate.{Aggregate}
 use Rattle.plan.specs.declared.Step.the-variants.{Group}
 
 -- every label of the column that is aggregated is well-formed
-abbrev pub groupFits : ℕ → Aggregate → ℕ → Supply → Work → Stack → Bool
-groupFits keys aggregate column supply work stack = fitsIn (Group keys aggregate column) supply work stack && topFormed column work stack
+abbrev pub groupFits : ℕ → Aggregate → ℕ → Supply → Memory → Stack → Bool
+groupFits keys aggregate column supply memory stack = fitsIn (Group keys aggregate column) supply memory stack && topFormed column memory stack

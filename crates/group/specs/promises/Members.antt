@@ -5,24 +5,25 @@ use mathlib.Core.Bool.{true, false, cond}
 use mathlib.Core.List.{List, [], _∷_, map}
 use lib.Dec.{eqb}
 use lib.IntN.{ℤ}
-use lib.ListN.{length, getD, drop}
+use lib.ListN.{length, getD, take, drop}
 use Rattle.group.specs.declared.Grouping.{Grouping}
 use Rattle.label_discharge.specs.Discharge.{forbidsA}
 use Rattle.label_words.specs.WellFormed.{wellFormed}
 use Rattle.accumulator.specs.promises.Accumulators.{single, withValues}
 use Rattle.accumulator.specs.declared.Accumulator.{Accumulator}
-use Rattle.cells.specs.promises.Cells.{cellsOf, rowFrom, tableRows}
+use Rattle.cells.specs.promises.Cells.{cellsOf, bareRows, rowFrom, tableRows}
 use Rattle.chains.specs.promises.Chains.{Chain}
 use Rattle.memory.specs.declared.LiveTable.{LiveTable}
-use Rattle.plan.specs.Group.{composedAfter}
+use Rattle.plan.specs.Group.{composedAfter, distinct}
 use Rattle.plan.specs.Numbers.{aggregateCode}
-use Rattle.plan.specs.Table.{Each, Cell, Row, cellAt, rowsOf}
+use Rattle.plan.specs.Table.{Each, Cell, Row, cellAt}
 use Rattle.plan.specs.declared.Aggregate.{Aggregate}
 
 -- the GROUP of a live table, which makes rows of a width
 abbrev pub groupingOf : LiveTable → ℕ → Aggregate → ℕ → ℕ → Grouping
 groupingOf table keys aggregate column width = record {
   at = table .at;
+  marks = table .marks;
   rows = table .rows;
   columns = table .columns;
   keys = keys;
@@ -53,7 +54,7 @@ chosen number (n ∷ numbers) (x ∷ list) = cond (eqb n number) (x ∷ chosen n
 
 -- the rows from one on
 abbrev pub rowsFrom : Grouping → List Cell → ℕ → List Row
-rowsFrom g memory row = rowsOf (g .columns) (g .rows - row) (drop (g .at + row * g .columns) memory)
+rowsFrom g memory row = bareRows (g .columns) (g .rows - row) (drop (g .at + row * g .columns) memory)
 
 -- the later rows beside which a row's number stands
 abbrev pub later : Grouping → List Cell → List ℕ → ℕ → List Row
@@ -82,9 +83,15 @@ GroupValues g values next row all =
     (leaders labels : List ℕ) → Chain (g .rows) leaders next → getD leaders row 0 ≡ row → ColumnInside g (length labels)
     → all ≡ withValues (single (cellAt (g .column) (rowOf g (cellsOf values labels) row) .value)) (columnValues (g .column) (later g (cellsOf values labels) leaders row))
 
--- its labels, each discharged over so many rows, composed in row order:
+-- its labels, each discharged over so many sheets, composed in row order:
 abbrev pub GroupLabel : Grouping → List ℕ → List ℕ → ℕ → ℕ → ℕ → Type 0
 GroupLabel g labels next row size label =
     (leaders : List ℕ) (values : List ℤ) → Chain (g .rows) leaders next → getD leaders row 0 ≡ row → ColumnInside g (length values)
     → Each (Allowed (g .column)) (rowsFrom g (cellsOf values labels) row)
     → label ≡ composedAfter (aggregateCode (g .aggregate)) size 0 (columnLabels (g .column) (members g (cellsOf values labels) leaders row))
+
+-- and how many different numbers stand beside its rows, one for each row of the table:
+abbrev pub GroupSheets : ℕ → List ℕ → List ℕ → ℕ → ℕ → Type 0
+GroupSheets rows numbers next row sheets =
+    (leaders : List ℕ) → Chain rows leaders next → getD leaders row 0 ≡ row
+    → sheets ≡ distinct (chosen row (drop row leaders) (drop row (take rows numbers)))

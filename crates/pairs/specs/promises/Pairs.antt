@@ -2,16 +2,17 @@
 use Prim.Native.Nat.{ℕ, _+_, _-_, _*_, _≤_, _<_, min}
 use mathlib.Core.Path.{_≡_}
 use mathlib.Core.Bool.{Bool, true, false, _&&_}
-use mathlib.Core.List.{List, [], _∷_, _++_}
+use mathlib.Core.List.{List, [], _∷_, _++_, map}
 use lib.Dec.{leb, ltb}
 use lib.ListN.{length, take, drop}
 use Rattle.pairs.specs.declared.Side.{Side}
-use Rattle.cells.specs.promises.Cells.{gridOf, rowFrom, tableRows}
+use Rattle.cells.specs.promises.Cells.{within, gridOf, rowFrom, tableRows}
 use Rattle.cells.specs.promises.Search.{tableWithin}
-use Rattle.cells.specs.promises.Work.{Work, cellsIn, room, Kept}
-use Rattle.memory.specs.promises.Stack.{lastSlot}
+use Rattle.cells.specs.promises.Work.{Work, Memory, cellsIn, room, markRoom, Kept, MarksKept}
+use Rattle.cells.specs.promises.Written.{Written}
+use Rattle.memory.specs.promises.Stack.{lastSlot, lastMarks, markPart}
 use Rattle.plan.specs.Join.{joinedRow, joinedTo, joinedRows}
-use Rattle.plan.specs.Table.{Cell, Row, flat}
+use Rattle.plan.specs.Table.{Cell, Row, flat, rowsOf}
 
 -- two tables below the last slot with their keys, which make rows of at most 8 columns, in slices of these lengths
 pub record Sides (values labels : ℕ) (left right : Side) : Type 0 where
@@ -75,7 +76,35 @@ pub record Grown (made : ℕ) (left right : Side) (new : List Row) (before : Wor
   pub below : take lastSlot (cellsIn after) ≡ take lastSlot (cellsIn before)
   pub kept : Kept before after
 
--- all rows of the join, where the tables fit; arguments that do not fit change nothing
-pub record RowsJoined (left right : Side) (before : Work) (count : ℕ) (after : Work) : Type 0 where
-  pub misfit : sidesFit (length (before .values)) (length (before .labels)) left right ≡ false → (count ≡ 0) × (after ≡ before)
-  pub grown : sidesFit (length (before .values)) (length (before .labels)) left right ≡ true → Grown 0 left right (allRows (cellsIn before) left right) before count after
+-- the marks of the left table lie below the last slot, in a slice of this length; as facts, and as it is tested
+pub record MarksBelow (left : Side) (marks : ℕ) : Type 0 where
+  pub below : left .marks + left .rows ≤ lastMarks
+  pub mark-room : markRoom ≤ marks
+
+unfoldable pub marksFit : ℕ → Side → Bool
+marksFit marks left = within (left .marks) (left .rows) lastMarks && leb markRoom marks
+
+-- the left rows with their marks, and all rows of the join with theirs
+abbrev pub leftMarked : Memory → Side → List Row
+leftMarked memory left = rowsOf (left .columns) (markPart (memory .marks) (left .marks) (left .rows)) (drop (left .at) (cellsIn (memory .work)))
+
+abbrev pub markedRows : Memory → Side → Side → List Row
+markedRows memory left right = joinedRows (left .key) (right .key) (leftMarked memory left) (sideRows (cellsIn (memory .work)) right)
+
+-- All rows of the join, and their marks from the last slot's beginning on.
+pub record Joined (left right : Side) (before : Memory) (count : ℕ) (after : Memory) : Type 0 where
+  pub grown : Grown 0 left right (allRows (cellsIn (before .work)) left right) (before .work) count (after .work)
+  pub marked : length (allRows (cellsIn (before .work)) left right) ≤ 256
+      → Written (before .marks) lastMarks (map (λ row. row .mark) (markedRows before left right)) (after .marks)
+  pub marks-below : take lastMarks (after .marks) ≡ take lastMarks (before .marks)
+  pub marks-kept : MarksKept (before .marks) (after .marks)
+
+-- what join_rows tests
+abbrev pub fitsAll : Side → Side → Memory → Bool
+fitsAll left right memory =
+    sidesFit (length (memory .work .values)) (length (memory .work .labels)) left right && marksFit (length (memory .marks)) left
+
+-- the same, where the tables fit; arguments that do not fit change nothing
+pub record RowsJoined (left right : Side) (before : Memory) (count : ℕ) (after : Memory) : Type 0 where
+  pub misfit : fitsAll left right before ≡ false → (count ≡ 0) × (after ≡ before)
+  pub joined : fitsAll left right before ≡ true → Joined left right before count after

@@ -1,10 +1,9 @@
 -- How strict an aggregate's label is. These are theorems about the definitions, each proved; nothing here is to be believed.
 use Prim.Native.Nat.{ℕ}
 use mathlib.Core.List.{List}
-use lib.ListN.{length}
 use Rattle.label_discharge.specs.Discharge.{afterA}
 use Rattle.label_laws.specs.Order.{AsStrict}
-use Rattle.plan.specs.Group.{groupRow}
+use Rattle.plan.specs.Group.{groupSize, groupRow}
 use Rattle.plan.specs.Keep.{keptCount}
 use Rattle.plan.specs.Numbers.{aggregateCode}
 use Rattle.plan.specs.Table.{Row, cellAt, Each}
@@ -15,9 +14,9 @@ module _ (keys columns : ℕ) (aggregate : Aggregate) (column : ℕ) (group : Li
   abbrev pub aggregateLabel : ℕ
   aggregateLabel = cellAt (keptCount keys columns) (groupRow keys columns aggregate column group) .label
 
-  -- a member's label, discharged at level A over the rows of the group
+  -- a member's label, discharged at level A over the sheets of the group
   abbrev pub memberLabel : Row → ℕ
-  memberLabel row = afterA (cellAt column row .label) (aggregateCode aggregate) (length group)
+  memberLabel row = afterA (cellAt column row .label) (aggregateCode aggregate) (groupSize group)
 
 -- "the aggregate, whose label is the composition of each cell's label discharged at level A": it is at least as strict as each of these
 abbrev pub AggregateAsStrict : Type 0

@@ -50,7 +50,7 @@ InEachRow p q = (p .row < q .row) ⊎ ((p .row ≡ q .row) × (p .number < q .nu
 
 -- the row of a table, and one of no cells where there is none
 abbrev pub rowIn : ℕ → Table → Row
-rowIn row table = getD (table .rows) row (record { cells = [] })
+rowIn row table = getD (table .rows) row (record { cells = []; mark = 0 })
 
 -- the cell in a row and a column, and a clear one where there is none
 abbrev pub cellIn : Table → ℕ → ℕ → Cell

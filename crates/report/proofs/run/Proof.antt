@@ -23,23 +23,23 @@ same : (n : ℕ) → n ≤ n
 same n = omega arith
 
 -- the number does not hang on what the lent slices hold
-number-same : (container : List ℕ) (draws v : List ℤ) (l : List ℕ) (o : List ℤ) (t x answer : List ℕ) {number : ℕ} {left : Lent} {told : List ℕ}
-    → runCalled number left told ≡ runCall (given container draws) (lent v l o t x) answer → 8192 ≤ length v → 8192 ≤ length l → 2048 ≤ length o → 256 ≤ length t
+number-same : (container : List ℕ) (draws v : List ℤ) (l m : List ℕ) (o : List ℤ) (t x answer : List ℕ) {number : ℕ} {left : Lent} {told : List ℕ}
+    → runCalled number left told ≡ runCall (given container draws) (lent v l m o t x) answer → 8192 ≤ length v → 8192 ≤ length l → 1024 ≤ length m → 2048 ≤ length o → 256 ≤ length t
     → 35097 ≤ length x → 4 ≤ length answer → CallNumber container draws number
-number-same container draws v l o t x answer e a b c d f g other others h r k =
-    let long : enough (lent v l o t x) ≡ true = rw (le-leb 8192 (length v) a, le-leb 8192 (length l) b, le-leb 2048 (length o) c, le-leb 256 (length t) d) in
-    ap (λ (r : RunCall). r .number) (e ∙ long-call (given container draws) (lent v l o t x) answer g)
-    ∙ ap (λ (told : Told). getD (numbersOf told) 0 0) (answer-same (given container draws) (lent v l o t x) other long h f r)
+number-same container draws v l m o t x answer e a b n c d f g other others h r k =
+    let long : enough (lent v l m o t x) ≡ true = rw (le-leb 8192 (length v) a, le-leb 8192 (length l) b, le-leb 1024 (length m) n, le-leb 2048 (length o) c, le-leb 256 (length t) d) in
+    ap (λ (r : RunCall). r .number) (e ∙ long-call (given container draws) (lent v l m o t x) answer g)
+    ∙ ap (λ (told : Told). getD (numbersOf told) 0 0) (answer-same (given container draws) (lent v l m o t x) other long h f r)
     ∙ sym (ap (λ (r : RunCall). r .number) (long-call (given container draws) other others k))
 
 -- the call, and what stands before it
 abbrev start : tie.After-cilunovay-run → tie.Start
-start c = c .before .before .before .before .before .before .before .before
+start c = c .before .before .before .before .before .before .before .before .before
 
 called : (c : tie.After-cilunovay-run) → CallNumber (now (start c .args .container)) (now (start c .args .draws)) (c .cilunovay-run .result)
 called c =
-    number-same (now (start c .args .container)) (now (start c .args .draws)) _ _ _ _ _ _ (c .cilunovay-run .ensures)
-    (same 8192) (same 8192) (same 2048) (same 256) (same 35097) (same 4)
+    number-same (now (start c .args .container)) (now (start c .args .draws)) _ _ _ _ _ _ _ (c .cilunovay-run .ensures)
+    (same 8192) (same 8192) (same 1024) (same 2048) (same 256) (same 35097) (same 4)
 
 slice-aggregate-cilunovay-run : tie.Need-slice-aggregate-cilunovay-run
 slice-aggregate-cilunovay-run c = search needs
@@ -59,6 +59,9 @@ slice-aggregate-cilunovay-run-5 c = search needs
 slice-aggregate-cilunovay-run-6 : tie.Need-slice-aggregate-cilunovay-run-6
 slice-aggregate-cilunovay-run-6 c = search needs
 
+slice-aggregate-cilunovay-run-7 : tie.Need-slice-aggregate-cilunovay-run-7
+slice-aggregate-cilunovay-run-7 c = search needs
+
 cilunovay-run-requires : tie.Need-cilunovay-run-requires
 cilunovay-run-requires c κs = search needs
 
@@ -69,7 +72,7 @@ export-requires : tie.Need-export-requires
 export-requires c κs = search needs
 
 returns : tie.Need-returns
-returns c = called (c .before .before .before .before .before .before .before .before .before .before)
+returns c = called (c .before .before .before .before .before .before .before .before .before .before .before)
 
 part-requires : tie.Need-part-requires
 part-requires c κs = search needs
@@ -87,7 +90,7 @@ print-requires : tie.Need-print-requires
 print-requires c κs = search needs
 
 returns-2 : tie.Need-returns-2
-returns-2 c = called (c .before .before .before .before .before .before .before .before .before .before .before .before .before)
+returns-2 c = called (c .before .before .before .before .before .before .before .before .before .before .before .before .before .before)
 
 pub run-spec : {M : Type 1} → statement M
 run-spec =
@@ -99,6 +102,7 @@ run-spec =
     slice-aggregate-cilunovay-run-4
     slice-aggregate-cilunovay-run-5
     slice-aggregate-cilunovay-run-6
+    slice-aggregate-cilunovay-run-7
     cilunovay-run-requires
     slice-aggregate-export
     export-requires

@@ -4,7 +4,7 @@ use mathlib.Core.Bool.{true}
 use Rattle.accepted.specs.Accepted.{operationExists}
 use Rattle.input.specs.Verdict.{accepted}
 use Rattle.cells.specs.promises.Labelled.{Labelled}
-use Rattle.cells.specs.promises.Work.{Work}
+use Rattle.cells.specs.promises.Work.{Memory}
 use Rattle.memory.specs.promises.Stack.{stackIn}
 use Rattle.memory.specs.promises.Steps.{fitsIn}
 use Rattle.memory.specs.declared.Stack.{Stack}
@@ -13,7 +13,7 @@ use Rattle.plan.specs.declared.Step.{Step}
 use Rattle.demands.specs.Given.{Given, checkGiven, supplyGiven}
 
 -- the step fits the stack, its operation exists, and every label of the stack is well-formed
-pub record Steady (given : Given) (step : Step) (work : Work) (stack : Stack) : Type 0 where
+pub record Steady (given : Given) (step : Step) (work : Memory) (stack : Stack) : Type 0 where
   pub accepted-is : checkGiven given ≡ accepted
   pub fits-is : fitsIn step (supplyGiven given) work stack ≡ true
   pub exists : operationExists step ≡ true

@@ -9,7 +9,7 @@ use Rattle.accepted.specs.Accepted.{Placed}
 use Rattle.input.specs.Answers.{inputTells}
 use Rattle.input.specs.Verdict.{accepted, rejected}
 use Rattle.cells.specs.promises.Labelled.{Labelled}
-use Rattle.cells.specs.promises.Work.{Work, Kept, room}
+use Rattle.cells.specs.promises.Work.{Memory, AllKept, room, markRoom}
 use Rattle.memory.specs.promises.Stack.{Ready, tableIn, stackIn}
 use Rattle.memory.specs.promises.Steps.{widthsOf}
 use Rattle.memory.specs.Refusals.{refusalTells}
@@ -27,11 +27,11 @@ use Rattle.walk.specs.declared.WalkAnswer.{WalkAnswer}
 use Rattle.walk.specs.declared.WalkAnswer.the-variants as answer
 
 -- the lengths of work memory and of the trace that a walk needs
-abbrev pub walkRoom : ℕ → ℕ → ℕ → Bool
-walkRoom values labels trace = leb room values && leb room labels && leb 256 trace
+abbrev pub walkRoom : ℕ → ℕ → ℕ → ℕ → Bool
+walkRoom values labels marks trace = leb room values && leb room labels && leb markRoom marks && leb 256 trace
 
-abbrev pub roomIn : Work → List ℕ → Bool
-roomIn work trace = walkRoom (length (work .values)) (length (work .labels)) (length trace)
+abbrev pub roomIn : Memory → List ℕ → Bool
+roomIn work trace = walkRoom (length (work .work .values)) (length (work .work .labels)) (length (work .marks)) (length trace)
 
 -- the plan's step at an index
 abbrev pub stepNumber : Given → ℕ → Step
@@ -48,9 +48,9 @@ leftGiven given used = withoutDraws used (supplyGiven given)
 
 -- Before step number `index`, in slices that held `work₀` and `trace₀` when the walk began: the steps before it are finished and have used so
 -- many draws, the trace has their lines, and the evaluation goes on from the stack in work memory.
-pub record Going (given : Given) (work₀ : Work) (trace₀ : List ℕ) (index used : ℕ) (work : Work) (trace : List ℕ) (stack : Stack) : Type 0 where
-  pub kept : Kept work₀ work
-  pub is-ready : Ready (length (work .values)) (length (work .labels)) stack
+pub record Going (given : Given) (work₀ : Memory) (trace₀ : List ℕ) (index used : ℕ) (work : Memory) (trace : List ℕ) (stack : Stack) : Type 0 where
+  pub kept : AllKept work₀ work
+  pub is-ready : Ready (length (work .work .values)) (length (work .work .labels)) stack
   pub labelled : Each Labelled (stackIn work stack)
   pub lines : List Line
   pub finished : length lines ≡ index
@@ -65,14 +65,14 @@ abbrev pub finish : ℕ → Table → Outcome
 finish steps table = ending (checkRelease table) steps (record { outcome = release table; trace = [] }) .outcome
 
 -- the slices of a walk whose steps were taken: the trace has the lines of the evaluation, and what lies past work memory is as it was
-pub record Stepped (given : Given) (work₀ : Work) (trace₀ : List ℕ) (work : Work) (trace : List ℕ) : Type 0 where
+pub record Stepped (given : Given) (work₀ : Memory) (trace₀ : List ℕ) (work : Memory) (trace : List ℕ) : Type 0 where
   pub long : roomIn work₀ trace₀ ≡ true
   pub accepted-is : checkGiven given ≡ accepted
-  pub kept : Kept work₀ work
+  pub kept : AllKept work₀ work
   pub traced : trace ≡ written (flatLines (evaluation given .trace)) trace₀
 
 -- the table that the steps leave stands at the start of work memory, and its release or 35 or 36 is the evaluation's
-pub record Left (given : Given) (work : Work) (steps rows columns : ℕ) : Type 0 where
+pub record Left (given : Given) (work : Memory) (steps rows columns : ℕ) : Type 0 where
   pub all-taken : steps ≡ length (planGiven given)
   pub few-rows : rows ≤ 256
   pub few-columns : columns ≤ 8
@@ -80,7 +80,7 @@ pub record Left (given : Given) (work : Work) (steps rows columns : ℕ) : Type 
   pub outcome : evaluation given .outcome ≡ finish steps (tableIn work 0 columns rows)
 
 -- What each answer means, of slices that held `work₀` and `trace₀` before and hold `work` and `trace` afterwards.
-abbrev pub Walked : Given → Work → List ℕ → WalkAnswer → Work → List ℕ → Type 0
+abbrev pub Walked : Given → Memory → List ℕ → WalkAnswer → Memory → List ℕ → Type 0
 Walked given work₀ trace₀ answer.TooShort work trace = (roomIn work₀ trace₀ ≡ false) × (work ≡ work₀) × (trace ≡ trace₀)
 Walked given work₀ trace₀ (answer.Input refusal) work trace =
     (roomIn work₀ trace₀ ≡ true) × (inputTells rejected refusal ≡ checkGiven given) × (work ≡ work₀) × (trace ≡ trace₀)

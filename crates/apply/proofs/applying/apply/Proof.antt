@@ -7,14 +7,13 @@ use denote.Ref.{now}
 use borrow.Author.Needs.{needs}
 use Rattle.apply_refusal.specs.promises.Refusals.{applySays}
 use Rattle.cells.specs.promises.Search.{says}
-use Rattle.cells.specs.promises.Work.{work}
+use Rattle.cells.specs.promises.Work.{memoryOf}
 use Rattle.memory.specs.promises.Stack.{widthsTo}
 use Rattle.memory.specs.promises.Steps.{stepSays, fits}
-use Rattle.plan.specs.Supply.{supplied}
 use Rattle.plan.specs.Verdict.{fine}
 use Rattle.plan.specs.Widths.{columnsExist, madeColumns}
 use Rattle.plan.specs.declared.Step.the-variants.{Apply}
-use Rattle.memory.proofs.Finish.{unfit-done, columns-fit, columns-misfit}
+use Rattle.memory.proofs.Finish.{unfit-done, columns-fit, columns-misfit, marks-too, not-even}
 use Rattle.apply.proofs.Meaning.{ApplyFits, apply-parts, refused-apply, operand-formed, made-apply, misfit-first}
 use Rattle.apply.proofs.applying.apply.Statement.{statement}
 use Rattle.apply.proofs.applying.apply.Tie as tie
@@ -49,8 +48,8 @@ returns : tie.Need-returns
 unfolding columnsExist madeColumns
 returns c =
     let a = c .before .before .before .before .args in
-    λ supply. unfit-done (Apply (a .column) (a .transform)) supply _ _
-    (misfit-first (a .column) (a .transform) supply (work (now (a .values)) (now (a .labels))) (a .stack) (columns-misfit _ _ (sym (c .before .before .fit .ensures) ∙ c .enum-told .given .1)))
+    λ supply marks room. unfit-done (Apply (a .column) (a .transform)) supply _ _
+    (misfit-first (a .column) (a .transform) supply (memoryOf (now (a .values)) (now (a .labels)) marks) (a .stack) (not-even marks (columns-misfit _ _ (sym (c .before .before .fit .ensures) ∙ c .enum-told .given .1))))
 
 live-table-requires : tie.Need-live-table-requires
 live-table-requires c κs = search needs
@@ -71,7 +70,7 @@ returns-2 c =
     let r = refused .before in
     let l = tested r in
     let a = start l .args in
-    λ supply. refused-apply (a .column) (a .transform) supply (work (now (a .values)) (now (a .labels))) (a .stack) (fitted l .0) (parts l)
+    λ supply marks room. refused-apply (a .column) (a .transform) supply (memoryOf (now (a .values)) (now (a .labels)) marks) (a .stack) room (marks-too marks room (fitted l .0)) (parts l)
     (r .refusal .result) (refused .match2 .keys2) (r .refusal .ensures)
 
 -- nothing is refused
@@ -88,7 +87,7 @@ make-table-requires c κs =
     let l = tested (clear t) in
     let a = start l .args in
     let p = parts l in
-    let formed = operand-formed (a .column) (a .transform) (supplied [] []) (work (now (a .values)) (now (a .labels))) (a .stack) (fitted l .0) p (fine-is t) in
+    let formed = operand-formed (a .column) (a .transform) (now (a .labels)) (l .live-table .result) (fine-is t) in
     ((p .inside-is, p .narrow), (p .below, p .operand-below, formed .0, formed .1))
 
 with-table-requires : tie.Need-with-table-requires
@@ -107,8 +106,8 @@ returns-3 c =
     let t = m .before .before .before in
     let l = tested (clear t) in
     let a = start l .args in
-    λ supply. rw (c .with-table .ensures)
-    (made-apply (a .column) (a .transform) supply (work (now (a .values)) (now (a .labels))) (a .stack) (fitted l .0) (parts l) (fine-is t) (m .make-table .ensures))
+    λ supply marks room. rw (c .with-table .ensures)
+    (made-apply (a .column) (a .transform) supply (memoryOf (now (a .values)) (now (a .labels)) marks) (a .stack) room (marks-too marks room (fitted l .0)) (parts l) (fine-is t) (m .make-table .ensures))
 
 pub apply-spec : {M : Type 1} → statement M
 apply-spec =

@@ -10,13 +10,13 @@ use Rattle.cilunovay.proofs.run.cilunovay_run.Statement.{statement}
 use Rattle.cilunovay.proofs.run.cilunovay_run.Tie as tie
 
 -- what stands before the test of the answer's length
-abbrev start : tie.After-slice-known4 → tie.Start
-start c = c .before .before .before .before .before
+abbrev start : tie.After-slice-known5 → tie.Start
+start c = c .before .before .before .before .before .before
 
 returns : tie.Need-returns
 returns c =
     let a = start (c .before) .args in
-    run-short (given (now (a .container)) (now (a .draws))) (lent (now (a .values)) (now (a .labels)) (now (a .output)) (now (a .trace)) (now (a .text))) (now (a .answer)) (c .if1 .taken)
+    run-short (given (now (a .container)) (now (a .draws))) (lent (now (a .values)) (now (a .labels)) (now (a .marks)) (now (a .output)) (now (a .trace)) (now (a .text))) (now (a .answer)) (c .if1 .taken)
 
 run-requires : tie.Need-run-requires
 run-requires c κs = search needs
@@ -72,12 +72,15 @@ same-length-5 c = search needs
 same-length-6 : tie.Need-same-length-6
 same-length-6 c = search needs
 
+same-length-7 : tie.Need-same-length-7
+same-length-7 c = search needs
+
 returns-2 : tie.Need-returns-2
 returns-2 c =
-    let run = c .before .before .before .before .before .before .before .before .before in
-    let e = run .before .before .before .before .before .before in
+    let run = c .before .before .before .before .before .before .before .before .before .before .before in
+    let e = run .before .before .before .before .before .before .before in
     let a = start (e .before) .args in
-    run-long (given (now (a .container)) (now (a .draws))) (lent (now (a .values)) (now (a .labels)) (now (a .output)) (now (a .trace)) (now (a .text))) (now (a .answer)) (e .if1 .left)
+    run-long (given (now (a .container)) (now (a .draws))) (lent (now (a .values)) (now (a .labels)) (now (a .marks)) (now (a .output)) (now (a .trace)) (now (a .text))) (now (a .answer)) (e .if1 .left)
     (run .run .ensures) (c .run-numbers .ensures .0)
 
 pub cilunovay-run-spec : {M : Type 1} → statement M
@@ -103,4 +106,5 @@ cilunovay-run-spec =
     same-length-4
     same-length-5
     same-length-6
+    same-length-7
     returns-2)

@@ -1,10 +1,14 @@
 -- `evaluator::monitor::released` meets its contract. Assumes nothing.
+use Prim.Native.Nat.{ℕ, _≤_}
 use mathlib.Core.Path.{_≡_, refl, sym, ap, subst, _∙_}
+use mathlib.Core.List.{List}
+use native.Mathlib.Omega.{arith}
 use denote.Ref.{now}
 use lib.ListN.{length}
 use borrow.Author.Needs.{needs}
+use Rattle.cells.specs.promises.Cells.{noMarks}
 use Rattle.cells.specs.promises.Search.{says}
-use Rattle.cells.specs.promises.Work.{work}
+use Rattle.cells.specs.promises.Work.{work, memoryOf, markRoom}
 use Rattle.demands.specs.Monitor.{withText}
 use Rattle.memory.specs.promises.Stack.{tableIn}
 use Rattle.plan.specs.Verdict.{Verdict, fine, refused}
@@ -12,6 +16,7 @@ use Rattle.release.specs.declared.ReleaseAnswer.{ReleaseAnswer}
 use Rattle.release.specs.promises.Release.{releaseSays, bytesTold, releaseReply, Releases}
 use Rattle.walk.specs.promises.Walk.{finish}
 use Rattle.evaluator.specs.promises.Ends.{Ends}
+use Rattle.cells.proofs.Rows.{no-marks}
 use Rattle.evaluator.proofs.ReleaseMeaning.{answerBy, finished, always-fits}
 use Rattle.evaluator.proofs.monitor.released.Statement.{statement}
 use Rattle.evaluator.proofs.monitor.released.Tie as tie
@@ -27,12 +32,13 @@ answered c e = let a = start c .args in
     subst (λ (r : ReleaseAnswer). Releases (releaseReply (work (now (a .values)) (now (a .labels))) (now (a .output)) (now (a .text)) (a .rows) (a .columns)) (now (a .values)) (now (a .output)) (now (a .text)) (a .rows) (a .columns) r (c .release .last .1 .1 .0) (c .release .last .1 .1 .1 .0)) e (c .release .ensures)
 
 -- so it ends as the evaluation does, or with 51
-ended : (c : tie.After-release) {answer : ReleaseAnswer} (v : Verdict) → c .release .result ≡ answer → releaseSays answer ≡ says v → let a = start c .args in let w = work (now (a .values)) (now (a .labels)) in
-    Ends (withText (a .steps) (length (now (a .text))) (finish (a .steps) (tableIn w 0 (a .columns) (a .rows)))) (now (a .output)) (now (a .text))
+ended : (c : tie.After-release) {answer : ReleaseAnswer} (v : Verdict) → c .release .result ≡ answer → releaseSays answer ≡ says v → let a = start c .args in
+    (marks : List ℕ) → markRoom ≤ length marks
+    → Ends (withText (a .steps) (length (now (a .text))) (finish (a .steps) (tableIn (memoryOf (now (a .values)) (now (a .labels)) marks) 0 (a .columns) (a .rows)))) (now (a .output)) (now (a .text))
     (answerBy (a .rows) (a .columns) (a .steps) v (bytesTold answer))
     (c .release .last .1 .1 .0) (c .release .last .1 .1 .1 .0)
-ended c v e s = let a = start c .args in let p = start c .pre in
-    finished (work (now (a .values)) (now (a .labels))) (a .rows) (a .columns) (a .steps) (p .0) (p .2) (p .3) (p .4) (p .1) (now (a .output)) (p .5) (now (a .text)) v s (answered c e)
+ended c v e s marks room = let a = start c .args in let p = start c .pre in
+    finished (work (now (a .values)) (now (a .labels))) marks (a .rows) (a .columns) (a .steps) (p .0) (p .2) (p .3) (p .4) room (p .1) (now (a .output)) (p .5) (now (a .text)) v s (answered c e)
 
 release-requires : tie.Need-release-requires
 release-requires c κs = search needs
@@ -57,7 +63,7 @@ never-requires c κs =
     let r = c .before .before .before .before .before in
     let a = start r .args in
     let p = start r .pre in
-    always-fits (work (now (a .values)) (now (a .labels))) (a .rows) (a .columns) (a .steps) (p .0) (p .2) (p .3) (p .4) (p .1) (now (a .output)) (p .5) (now (a .text)) (answered r (c .enum-told2 .given .1) .says-so)
+    always-fits (work (now (a .values)) (now (a .labels))) (noMarks markRoom) (a .rows) (a .columns) (a .steps) (p .0) (p .2) (p .3) (p .4) (rw (no-marks markRoom) (omega arith)) (p .1) (now (a .output)) (p .5) (now (a .text)) (answered r (c .enum-told2 .given .1) .says-so)
 
 same-length : tie.Need-same-length
 same-length c = search needs

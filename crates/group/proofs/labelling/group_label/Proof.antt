@@ -10,9 +10,9 @@ use Rattle.chains.specs.promises.Chains.{Chain, Onward}
 use Rattle.group.specs.promises.Members.{chosen, Allowed, columnLabels}
 use Rattle.label_composition.specs.Composition.{composed}
 use Rattle.label_discharge.specs.Discharge.{afterA}
-use Rattle.cells.specs.promises.Cells.{cellsOf, rowFrom}
+use Rattle.cells.specs.promises.Cells.{bareRows, cellsOf, rowFrom}
 use Rattle.plan.specs.Group.{composedAfter}
-use Rattle.plan.specs.Table.{Each, rowsOf, cellAt}
+use Rattle.plan.specs.Table.{Each, cellAt}
 use Rattle.group.proofs.Choosing.{next-led, next-left, member-next, each-chosen}
 use Rattle.group.proofs.Labels.{Composing, none-composed, label-taken}
 use Rattle.group_refusal.proofs.Laws.{few-codes}
@@ -25,7 +25,7 @@ use Rattle.group.proofs.labelling.group_label.Statement.{statement}
 use Rattle.group.proofs.labelling.group_label.Tie as tie
 
 abbrev Inv-loop : tie.InvT-loop
-Inv-loop labels next row size rows columns column at code first all₀ other₀ all other = Walking (length labels) at rows columns column other (at + other * columns) × (row < other) × Onward rows next × (code < 5) × ((leaders : List ℕ) (values : List ℤ) → Chain rows leaders next → getD leaders row 0 ≡ row → at + rows * columns ≤ length values → Each (Allowed column) (rowsOf columns (rows - row) (drop (at + row * columns) (cellsOf values labels))) → (other < rows → getD leaders other 0 ≡ row) × Composing code size column (composedAfter code size 0 (columnLabels column (rowFrom columns (cellsOf values labels) (at + row * columns) ∷ chosen row (drop (row + 1) leaders) (rowsOf columns (rows - (row + 1)) (drop (at + (row + 1) * columns) (cellsOf values labels)))))) all (chosen row (drop other leaders) (rowsOf columns (rows - other) (drop (at + other * columns) (cellsOf values labels)))))
+Inv-loop labels next row size rows columns column at code first all₀ other₀ all other = Walking (length labels) at rows columns column other (at + other * columns) × (row < other) × Onward rows next × (code < 5) × ((leaders : List ℕ) (values : List ℤ) → Chain rows leaders next → getD leaders row 0 ≡ row → at + rows * columns ≤ length values → Each (Allowed column) (bareRows columns (rows - row) (drop (at + row * columns) (cellsOf values labels))) → (other < rows → getD leaders other 0 ≡ row) × Composing code size column (composedAfter code size 0 (columnLabels column (rowFrom columns (cellsOf values labels) (at + row * columns) ∷ chosen row (drop (row + 1) leaders) (bareRows columns (rows - (row + 1)) (drop (at + (row + 1) * columns) (cellsOf values labels)))))) all (chosen row (drop other leaders) (bareRows columns (rows - other) (drop (at + other * columns) (cellsOf values labels)))))
 
 abbrev μ-loop : tie.MeasureT-loop
 μ-loop labels next row size rows columns column at code first all₀ other₀ all other = rows - other
@@ -81,7 +81,7 @@ loop-holds c =
           let l = label-read values (a .labels .now) (a .g .columns) place (a .g .column) (p .0 .has-column) (inside-other (length values) walk h q) (inside walk h) in
           let each = rw (rows-next (a .g .columns) (a .g .rows) (a .row) place M h) at allowed in
           let start : c .before .with-label .result ≡ composed 0 (afterA (cellAt (a .g .column) (rowFrom (a .g .columns) M place) .label) (code .result) (a .size)) = rw l (c .before .with-label .ensures zero-well-formed (rw l at (each .0)) few) in
-          let later = each-chosen (Allowed (a .g .column)) (a .row) (drop (a .row + 1) leaders) (rowsOf (a .g .columns) (a .g .rows - (a .row + 1)) (drop (a .g .at + (a .row + 1) * a .g .columns) M)) (rw k (each .1)) in (
+          let later = each-chosen (Allowed (a .g .column)) (a .row) (drop (a .row + 1) leaders) (bareRows (a .g .columns) (a .g .rows - (a .row + 1)) (drop (a .g .at + (a .row + 1) * a .g .columns) M)) (rw k (each .1)) in (
             next-led chain (a .row) (a .g .columns) (a .g .at) M (a .row) h e,
             rw (← (next-left chain (a .row) (a .g .columns) (a .g .at) M (a .row) h e)) (label-taken {row = rowFrom (a .g .columns) M place} (none-composed (code .result) (a .size) (a .g .column) _ (each .0, later)) start),
           ),

@@ -8,7 +8,7 @@ use Rattle.cells.specs.promises.Work.{work, cellsIn}
 use Rattle.plan.specs.Group.{aggregateValue, composedAfter}
 use Rattle.plan.specs.Numbers.{aggregateCode}
 use Rattle.plan.specs.Table.{Each}
-use Rattle.group.proofs.Aggregating.{size-is, aggregate-is}
+use Rattle.group.proofs.Aggregating.{aggregate-is}
 use Rattle.group.proofs.Choosing.{rows-left, each-drop}
 use Rattle.value.proofs.Machine.{back-is}
 use Rattle.group.proofs.made.write_group.Statement.{statement}
@@ -47,11 +47,10 @@ returns c = λ leaders chain e.
     let sum = u .group-values .ensures leaders (a .labels .now) chain e in-labels in
     let group = members (a .g) M leaders (a .row) in
     let allowed : Each (Allowed (a .g .column)) (rowsFrom (a .g) M (a .row)) = rw rows-left (each-drop (Allowed (a .g .column)) (a .row) (groupedRows (a .g) M) (p .1 .0)) in
-    let size = size-is (a .g) M leaders (a .row) (u .group-values .result) (p .0 .few-rows) (p .1 .1 .0) sum in
     let value : v .value-of .result ≡ aggregateValue (a .g .aggregate) (columnValues (a .g .column) group)
     = v .value-of .ensures ∙ aggregate-is (a .g) M leaders (a .row) (u .group-values .result) (p .0 .few-rows) (p .1 .1 .0) sum in
-    let label : l .group-label .result ≡ composedAfter (aggregateCode (a .g .aggregate)) (length group) 0 (columnLabels (a .g .column) group)
-    = rw size at (l .group-label .ensures leaders (a .values .now) chain e in-values allowed) in
+    let label : l .group-label .result ≡ composedAfter (aggregateCode (a .g .aggregate)) (a .sheets) 0 (columnLabels (a .g .column) group)
+    = l .group-label .ensures leaders (a .values .now) chain e in-values allowed in
     rw (back-is (v .value-of .result) (v .value-of .ok), value, label) at (r .write-row .ensures)
 
 pub write-group-spec : {M : Type 1} → statement M

@@ -8,8 +8,8 @@ use borrow.Author.Needs.{needs}
 use Rattle.accumulator.specs.promises.Accumulators.{single, withValue, withValues}
 use Rattle.chains.specs.promises.Chains.{Chain, Onward}
 use Rattle.group.specs.promises.Members.{chosen, columnValues}
-use Rattle.cells.specs.promises.Cells.{cellsOf, rowFrom}
-use Rattle.plan.specs.Table.{Row, cellAt, rowsOf}
+use Rattle.cells.specs.promises.Cells.{bareRows, cellsOf, rowFrom}
+use Rattle.plan.specs.Table.{Row, cellAt}
 use Rattle.group.proofs.Choosing.{next-led, next-left, member-next}
 use Rattle.chains.proofs.Reading.{value-read}
 use Rattle.group.proofs.Walking.{walk-from, walk-to, inside-other}
@@ -19,7 +19,7 @@ use Rattle.group.proofs.member.group_values.Statement.{statement}
 use Rattle.group.proofs.member.group_values.Tie as tie
 
 abbrev Inv-loop : tie.InvT-loop
-Inv-loop values next row rows columns column at first all₀ other₀ all other = Walking (length values) at rows columns column other (at + other * columns) × (row < other) × Onward rows next × ((leaders labels : List ℕ) → Chain rows leaders next → getD leaders row 0 ≡ row → at + rows * columns ≤ length labels → (other < rows → getD leaders other 0 ≡ row) × (withValues all₀ (columnValues column (chosen row (drop (row + 1) leaders) (rowsOf columns (rows - (row + 1)) (drop (at + (row + 1) * columns) (cellsOf values labels))))) ≡ withValues all (columnValues column (chosen row (drop other leaders) (rowsOf columns (rows - other) (drop (at + other * columns) (cellsOf values labels)))))))
+Inv-loop values next row rows columns column at first all₀ other₀ all other = Walking (length values) at rows columns column other (at + other * columns) × (row < other) × Onward rows next × ((leaders labels : List ℕ) → Chain rows leaders next → getD leaders row 0 ≡ row → at + rows * columns ≤ length labels → (other < rows → getD leaders other 0 ≡ row) × (withValues all₀ (columnValues column (chosen row (drop (row + 1) leaders) (bareRows columns (rows - (row + 1)) (drop (at + (row + 1) * columns) (cellsOf values labels))))) ≡ withValues all (columnValues column (chosen row (drop other leaders) (bareRows columns (rows - other) (drop (at + other * columns) (cellsOf values labels)))))))
 
 abbrev μ-loop : tie.MeasureT-loop
 μ-loop values next row rows columns column at first all₀ other₀ all other = rows - other

@@ -5,12 +5,12 @@ use lib.ListN.{length}
 use mathlib.Core.List.{[]}
 use denote.Ref.{now}
 use borrow.Author.Needs.{needs}
-use Rattle.cells.specs.promises.Work.{work}
+use Rattle.cells.specs.promises.Work.{memoryOf}
 use Rattle.memory.specs.promises.Stack.{widthsTo}
 use Rattle.memory.specs.promises.Steps.{fits}
 use Rattle.plan.specs.Widths.{columnsExist, madeColumns}
 use Rattle.plan.specs.declared.Step.the-variants.{Keep}
-use Rattle.memory.proofs.Finish.{unfit-done, columns-fit, columns-misfit}
+use Rattle.memory.proofs.Finish.{unfit-done, columns-fit, columns-misfit, marks-too, not-even}
 use Rattle.keep.proofs.KeepMeaning.{KeepFits, keep-parts, keep-made}
 use Rattle.keep.proofs.keeping.keep.Statement.{statement}
 use Rattle.keep.proofs.keeping.keep.Tie as tie
@@ -39,7 +39,9 @@ enum-told c = search needs
 
 returns : tie.Need-returns
 unfolding columnsExist madeColumns
-returns c = λ supply. unfit-done (Keep (c .before .before .before .before .args .mask)) supply _ _ (columns-misfit _ _ (sym (c .before .before .fit .ensures) ∙ c .enum-told .given .1))
+returns c =
+    λ supply marks room. unfit-done (Keep (c .before .before .before .before .args .mask)) supply _ _
+    (not-even marks (columns-misfit _ _ (sym (c .before .before .fit .ensures) ∙ c .enum-told .given .1)))
 
 live-table-requires : tie.Need-live-table-requires
 live-table-requires c κs = search needs
@@ -61,7 +63,8 @@ unfolding columnsExist madeColumns
 returns-2 c =
     let l = c .before .before .before .before .before .before .before in
     let a = start l .args in
-    λ supply. rw (c .with-table .ensures) (keep-made (a .mask) supply (work (now (a .values)) (now (a .labels))) (a .stack) (fitted l .0) (parts l) (c .before .before .before .before .keep-rows .ensures))
+    λ supply marks room. rw (c .with-table .ensures)
+    (keep-made (a .mask) supply (memoryOf (now (a .values)) (now (a .labels)) marks) (a .stack) room (marks-too marks room (fitted l .0)) (parts l) (c .before .before .before .before .keep-rows .ensures))
 
 pub keep-spec : {M : Type 1} → statement M
 keep-spec =

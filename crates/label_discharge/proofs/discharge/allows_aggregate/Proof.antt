@@ -1,6 +1,6 @@
 -- `label_discharge::discharge::allows_aggregate` meets its contract. Assumes nothing.
 use borrow.Author.Needs.{needs}
-use Rattle.label_discharge.specs.Discharge.{allowsAggregate, enoughRows}
+use Rattle.label_discharge.specs.Discharge.{allowsAggregate, enoughSheets}
 use Rattle.label_discharge.proofs.discharge.allows_aggregate.Statement.{statement}
 use Rattle.label_discharge.proofs.discharge.allows_aggregate.Tie as tie
 
@@ -14,7 +14,7 @@ field-requires : tie.Need-field-requires
 field-requires c κs = search needs
 
 returns : tie.Need-returns
-unfolding allowsAggregate enoughRows
+unfolding allowsAggregate enoughSheets
 returns c = rw (c .field .ensures, c .before .bit .ensures)
 
 pub allows-aggregate-spec : {M : Type 1} → statement M

@@ -33,14 +33,17 @@ mul-t8 c = search needs
 mul-t9 : tie.Need-mul-t9
 mul-t9 c = search needs
 
-array-read-t12 : tie.Need-array-read-t12
-array-read-t12 c = search needs
+mul-t10 : tie.Need-mul-t10
+mul-t10 c = search needs
 
-mul-t13 : tie.Need-mul-t13
-mul-t13 c = search needs
+array-read-t13 : tie.Need-array-read-t13
+array-read-t13 c = search needs
 
-array-read-t16 : tie.Need-array-read-t16
-array-read-t16 c = search needs
+mul-t14 : tie.Need-mul-t14
+mul-t14 c = search needs
+
+array-read-t17 : tie.Need-array-read-t17
+array-read-t17 c = search needs
 
 returns-3 : tie.Need-returns-3
 unfolding liveTable
@@ -58,7 +61,8 @@ live-table-spec =
     sub-slot-2
     mul-t8
     mul-t9
-    array-read-t12
-    mul-t13
-    array-read-t16
+    mul-t10
+    array-read-t13
+    mul-t14
+    array-read-t17
     returns-3)

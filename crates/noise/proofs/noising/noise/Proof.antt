@@ -2,19 +2,23 @@
 use mathlib.Core.Path.{_≡_, sym, ap, _∙_}
 use mathlib.Core.Bool.{true}
 use mathlib.Core.List.{[]}
+use Prim.Native.Nat.{_≤_}
+use native.Mathlib.Omega.{arith}
 use lib.ListN.{length}
 use denote.Ref.{now}
 use borrow.Author.Needs.{needs}
 use Rattle.noise_refusal.specs.promises.Refusals.{noiseSays}
+use Rattle.cells.specs.promises.Cells.{noMarks}
 use Rattle.cells.specs.promises.Search.{says}
-use Rattle.cells.specs.promises.Work.{work}
+use Rattle.cells.specs.promises.Work.{memoryOf, markRoom}
 use Rattle.memory.specs.promises.Stack.{widthsTo}
 use Rattle.memory.specs.promises.Steps.{stepSays, fits}
 use Rattle.plan.specs.Supply.{supplied}
 use Rattle.plan.specs.Verdict.{fine}
 use Rattle.plan.specs.Widths.{columnsExist, madeColumns}
 use Rattle.plan.specs.declared.Step.the-variants.{Noise}
-use Rattle.memory.proofs.Finish.{unfit-done, columns-fit, columns-misfit}
+use Rattle.cells.proofs.Rows.{no-marks}
+use Rattle.memory.proofs.Finish.{unfit-done, columns-fit, columns-misfit, marks-too, not-even}
 use Rattle.noise.proofs.Meaning.{NoiseFits, noise-parts, refused-noise, formed-is, drawn, made-noise, misfit-first}
 use Rattle.noise.proofs.noising.noise.Statement.{statement}
 use Rattle.noise.proofs.noising.noise.Tie as tie
@@ -49,8 +53,8 @@ returns : tie.Need-returns
 unfolding columnsExist madeColumns
 returns c =
     let a = c .before .before .before .before .args in
-    λ tables. unfit-done (Noise (a .column)) (supplied tables (now (a .draws))) _ _
-    (misfit-first (a .column) (supplied tables (now (a .draws))) (work (now (a .values)) (now (a .labels))) (a .stack) (columns-misfit _ _ (sym (c .before .before .fit .ensures) ∙ c .enum-told .given .1)))
+    λ tables marks room. unfit-done (Noise (a .column)) (supplied tables (now (a .draws))) _ _
+    (misfit-first (a .column) (supplied tables (now (a .draws))) (memoryOf (now (a .values)) (now (a .labels)) marks) (a .stack) (not-even marks (columns-misfit _ _ (sym (c .before .before .fit .ensures) ∙ c .enum-told .given .1))))
 
 live-table-requires : tie.Need-live-table-requires
 live-table-requires c κs = search needs
@@ -71,7 +75,7 @@ returns-2 c =
     let r = refused .before in
     let l = tested r in
     let a = start l .args in
-    λ tables. refused-noise (a .column) (supplied tables (now (a .draws))) (work (now (a .values)) (now (a .labels))) (a .stack) (fitted l .0) (parts l)
+    λ tables marks room. refused-noise (a .column) (supplied tables (now (a .draws))) (memoryOf (now (a .values)) (now (a .labels)) marks) (a .stack) room (marks-too marks room (fitted l .0)) (parts l)
     (r .refusal .result) (refused .match2 .keys2) (r .refusal .ensures)
 
 -- nothing is refused
@@ -89,8 +93,11 @@ make-table-requires c κs =
     let a = start l .args in
     let p = parts l in
     let given = supplied [] (now (a .draws)) in
-    let w = work (now (a .values)) (now (a .labels)) in
-    ((p .inside-is, p .narrow), (p .below, drawn (a .column) given w (a .stack) (fitted l .0) p (fine-is t), formed-is (a .column) given w (a .stack) (fitted l .0) p (fine-is t)))
+    let marks = noMarks markRoom in
+    let m = memoryOf (now (a .values)) (now (a .labels)) marks in
+    let room : markRoom ≤ length marks = rw (no-marks markRoom) (omega arith) in
+    let t₁ = marks-too marks room (fitted l .0) in
+    ((p .inside-is, p .narrow), (p .below, drawn (a .column) given m (a .stack) room t₁ p (fine-is t), formed-is (a .column) given m (a .stack) room t₁ p (fine-is t)))
 
 with-table-requires : tie.Need-with-table-requires
 with-table-requires c κs = search needs
@@ -108,8 +115,8 @@ returns-3 c =
     let t = m .before .before .before in
     let l = tested (clear t) in
     let a = start l .args in
-    λ tables. rw (c .with-table .ensures)
-    (made-noise (a .column) (supplied tables (now (a .draws))) (work (now (a .values)) (now (a .labels))) (a .stack) (fitted l .0) (parts l) (fine-is t) (m .make-table .ensures))
+    λ tables marks room. rw (c .with-table .ensures)
+    (made-noise (a .column) (supplied tables (now (a .draws))) (memoryOf (now (a .values)) (now (a .labels)) marks) (a .stack) room (marks-too marks room (fitted l .0)) (parts l) (fine-is t) (m .make-table .ensures))
 
 pub noise-spec : {M : Type 1} → statement M
 noise-spec =

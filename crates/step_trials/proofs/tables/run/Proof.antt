@@ -7,19 +7,19 @@ use Rattle.step_trials.proofs.tables.run.Statement.{statement}
 use Rattle.step_trials.proofs.tables.run.Tie as tie
 
 abbrev Inv-loop2 : tie.InvT-loop2
-Inv-loop2 line container bytes case values₀ labels₀ stack cells v l from end top columns read kind value label i₀ t23 values labels i =
+Inv-loop2 line container bytes case values₀ labels₀ stack cells v l m from end top columns read kind value label i₀ t23 values labels i =
     Unit {0}
 
 abbrev μ-loop2 : tie.MeasureT-loop2
-μ-loop2 line container bytes case values₀ labels₀ stack cells v l from end top columns read kind value label i₀ t23 values labels i =
+μ-loop2 line container bytes case values₀ labels₀ stack cells v l m from end top columns read kind value label i₀ t23 values labels i =
     8200 - i
 
 abbrev Inv-loop : tie.InvT-loop
-Inv-loop line container bytes case values₀ labels₀ stack₀ cells₀ v₀ l₀ from₀ t23 values labels stack cells v l from =
+Inv-loop line container bytes case values₀ labels₀ stack₀ cells₀ v₀ l₀ m₀ from₀ t23 values labels stack cells v l m from =
     Unit {0}
 
 abbrev μ-loop : tie.MeasureT-loop
-μ-loop line container bytes case values₀ labels₀ stack₀ cells₀ v₀ l₀ from₀ t23 values labels stack cells v l from =
+μ-loop line container bytes case values₀ labels₀ stack₀ cells₀ v₀ l₀ m₀ from₀ t23 values labels stack cells v l m from =
     length line - from
 
 no-tables-requires : tie.Need-no-tables-requires Inv-loop2 μ-loop2 Inv-loop μ-loop
@@ -77,11 +77,14 @@ either-requires-2 c κs = search needs
 either-requires-3 : tie.Need-either-requires-3 Inv-loop2 μ-loop2 Inv-loop μ-loop
 either-requires-3 c κs = search needs
 
+either-requires-4 : tie.Need-either-requires-4 Inv-loop2 μ-loop2 Inv-loop μ-loop
+either-requires-4 c κs = search needs
+
 with-table-requires : tie.Need-with-table-requires Inv-loop2 μ-loop2 Inv-loop μ-loop
 with-table-requires c κs = search needs
 
 loop-less : tie.Need-loop-less Inv-loop2 μ-loop2 Inv-loop μ-loop
-loop-less c = search needs
+loop-less c = omega (arith, c .before .before .before .before .before .before .before .before .before .before .before .before .before .before .before .find .ensures .0, c .before .before .before .before .before .before .before .before .before .before .before .before .before .before .before .before .loop-test .taken)
 
 loop-again : tie.Need-loop-again Inv-loop2 μ-loop2 Inv-loop μ-loop
 loop-again c = search needs
@@ -143,13 +146,13 @@ with-table-requires-2 : tie.Need-with-table-requires-2 Inv-loop2 μ-loop2 Inv-lo
 with-table-requires-2 c κs = search needs
 
 loop-less-2 : tie.Need-loop-less-2 Inv-loop2 μ-loop2 Inv-loop μ-loop
-loop-less-2 c = omega (arith, c .before .before .before .before .before .before .before .before .before .before .before .before .before .before .before .before .before .before .before .before .before .before .before .before .before .find .ensures .0, c .before .before .before .before .before .before .before .before .before .before .before .before .before .before .before .before .before .before .before .before .before .before .before .before .before .before .loop-test .taken)
+loop-less-2 c = omega (arith, c .before .before .before .before .before .before .before .before .before .before .before .before .before .before .before .before .before .before .before .before .before .before .before .before .before .before .find .ensures .0, c .before .before .before .before .before .before .before .before .before .before .before .before .before .before .before .before .before .before .before .before .before .before .before .before .before .before .before .loop-test .taken)
 
 loop-again-2 : tie.Need-loop-again-2 Inv-loop2 μ-loop2 Inv-loop μ-loop
 loop-again-2 c = search needs
 
 loop-less-3 : tie.Need-loop-less-3 Inv-loop2 μ-loop2 Inv-loop μ-loop
-loop-less-3 c = omega (arith, c .before .before .before .before .before .before .before .before .before .before .before .before .before .before .before .before .before .before .before .before .before .before .before .before .find .ensures .0, c .before .before .before .before .before .before .before .before .before .before .before .before .before .before .before .before .before .before .before .before .before .before .before .before .before .loop-test .taken)
+loop-less-3 c = omega (arith, c .before .before .before .before .before .before .before .before .before .before .before .before .before .before .before .before .before .before .before .before .before .before .before .before .before .find .ensures .0, c .before .before .before .before .before .before .before .before .before .before .before .before .before .before .before .before .before .before .before .before .before .before .before .before .before .before .loop-test .taken)
 
 loop-again-3 : tie.Need-loop-again-3 Inv-loop2 μ-loop2 Inv-loop μ-loop
 loop-again-3 c = search needs
@@ -158,7 +161,7 @@ with-table-requires-3 : tie.Need-with-table-requires-3 Inv-loop2 μ-loop2 Inv-lo
 with-table-requires-3 c κs = search needs
 
 loop-less-4 : tie.Need-loop-less-4 Inv-loop2 μ-loop2 Inv-loop μ-loop
-loop-less-4 c = omega (arith, c .before .before .before .before .before .before .before .before .before .before .before .before .before .before .before .find .ensures .0, c .before .before .before .before .before .before .before .before .before .before .before .before .before .before .before .before .loop-test .taken)
+loop-less-4 c = omega (arith, c .before .before .before .before .before .before .before .before .before .before .before .before .before .before .before .before .find .ensures .0, c .before .before .before .before .before .before .before .before .before .before .before .before .before .before .before .before .before .loop-test .taken)
 
 loop-again-4 : tie.Need-loop-again-4 Inv-loop2 μ-loop2 Inv-loop μ-loop
 loop-again-4 c = search needs
@@ -213,6 +216,7 @@ run-spec =
     either-requires
     either-requires-2
     either-requires-3
+    either-requires-4
     with-table-requires
     loop-less
     loop-again

@@ -8,9 +8,6 @@ use Rattle.table_check.proofs.checking.header_fits.Tie as tie
 shape-of-requires : tie.Need-shape-of-requires
 shape-of-requires c κs = search needs
 
-byte-requires : tie.Need-byte-requires
-byte-requires c κs = search needs
-
 cell-count-requires : tie.Need-cell-count-requires
 cell-count-requires c κs = search needs
 
@@ -25,16 +22,9 @@ add-result c = search needs
 
 returns : tie.Need-returns
 unfolding headerFits shapeOf
-returns c = rw (c .before .before .before .before .before .shape-of .ensures, c .before .before .byte .ensures, c .cell-count .ensures)
+returns c = rw (c .before .before .before .before .shape-of .ensures, c .cell-count .ensures)
 
 pub header-fits-spec : {M : Type 1} → statement M
 header-fits-spec =
     tie.close
-    (tie.spec
-    shape-of-requires
-    byte-requires
-    cell-count-requires
-    cast-result
-    mul-result
-    add-result
-    returns)
+    (tie.spec shape-of-requires cell-count-requires cast-result mul-result add-result returns)

@@ -5,7 +5,7 @@ use lib.ListN.{length}
 use denote.Ref.{now}
 use borrow.Author.Needs.{needs}
 use borrow.Author.Tests.{le-leb}
-use Rattle.cells.specs.promises.Work.{work}
+use Rattle.cells.specs.promises.Work.{memoryOf}
 use Rattle.plan.specs.Trace.{Line}
 use Rattle.tally.specs.promises.Lines.{withLine}
 use Rattle.walk.proofs.LineMeaning.{longer, line-is}
@@ -51,9 +51,9 @@ returns c =
     let l = c .before .before .before .before .before .before .before .before in
     let a = start l .args in
     let p = start l .pre in
-    λ values h.
+    λ values marks h k.
     w .ensures .1 ∙ rw (w .ensures .0 ∙ le-leb _ _ (p .1), c .before .before .before .before .before .kind-of .ensures, c .before .before .before .before .before .before .before .stages-left .ensures)
-    (ap (λ (line : Line). withLine (a .index) line (now (a .trace))) (sym (line-is (a .step) (work values (now (a .labels))) (longer (length values) h (p .2)) (live l))))
+    (ap (λ (line : Line). withLine (a .index) line (now (a .trace))) (sym (line-is (a .step) (memoryOf values (now (a .labels)) marks) (longer (length values) h (p .2)) k (live l))))
 
 pub write-step-spec : {M : Type 1} → statement M
 write-step-spec =

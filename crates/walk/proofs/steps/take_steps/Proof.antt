@@ -6,7 +6,7 @@ use denote.Ref.{now}
 use lib.ListN.{length, take, drop, length-drop}
 use lib.Seq.{take-all}
 use borrow.Author.Needs.{needs}
-use Rattle.cells.specs.promises.Work.{work, room}
+use Rattle.cells.specs.promises.Work.{memoryOf, room, markRoom, AllKept}
 use Rattle.demands.specs.Given.{Given, given, planGiven}
 use Rattle.memory.specs.promises.Stack.{stackIn}
 use Rattle.plan.specs.Steps.{drawsUsed}
@@ -16,17 +16,17 @@ use Rattle.walk.specs.promises.Steady.{Steady}
 use Rattle.walk.specs.promises.Walk.{stepNumber, Going}
 use Rattle.walk.proofs.LineMeaning.{longer}
 use Rattle.walk.proofs.OneStep.{done-so, some-made, still-ready, line-made}
-use Rattle.walk.proofs.Walking.{count-is, top-rows, go-begin, go-room, go-steady, go-drawn, go-on, go-fits, go-refused, go-end}
+use Rattle.walk.proofs.Walking.{all-then, count-is, top-rows, go-begin, go-marks, go-room, go-steady, go-drawn, go-on, go-fits, go-refused, go-end}
 use Rattle.walk.proofs.steps.take_steps.Statement.{statement}
 use Rattle.walk.proofs.steps.take_steps.Tie as tie
 
 abbrev Inv-loop : tie.InvT-loop
-Inv-loop container draws values₀ labels₀ trace₀ count stack₀ index₀ used₀ values labels trace stack index used =
+Inv-loop container draws values₀ labels₀ marks₀ trace₀ count stack₀ index₀ used₀ values labels marks trace stack index used =
     (index ≤ count) × (count ≡ length (planGiven (given container draws)))
-    × Going (given container draws) (work values₀ labels₀) trace₀ index used (work values labels) trace stack × (length trace ≡ length trace₀)
+    × Going (given container draws) (memoryOf values₀ labels₀ marks₀) trace₀ index used (memoryOf values labels marks) trace stack × (length trace ≡ length trace₀)
 
 abbrev μ-loop : tie.MeasureT-loop
-μ-loop container draws values₀ labels₀ trace₀ count stack₀ index₀ used₀ values labels trace stack index used = count - index
+μ-loop container draws values₀ labels₀ marks₀ trace₀ count stack₀ index₀ used₀ values labels marks trace stack index used = count - index
 
 part-requires : tie.Need-part-requires Inv-loop μ-loop
 part-requires c κs = search needs
@@ -39,12 +39,12 @@ no-tables-requires c κs = search needs
 
 loop-holds : tie.Need-loop-holds Inv-loop μ-loop
 loop-holds c =
-    let s = c .before .before .before .before .before .before in
+    let s = c .before .before .before .before .before .before .before in
     (omega arith, count-is (given (now (s .args .container)) (now (s .args .draws))) (s .pre .0) (c .before .before .part .ensures) (c .before .step-count .ensures) .0, go-begin (s .pre .0) (s .pre .1) (c .no-tables .ensures), refl)
 
 -- the loop is at a step of the plan
 abbrev start : tie.In-loop Inv-loop μ-loop → tie.Start Inv-loop μ-loop
-start c = c .before .before .before .before .before .before .before .before
+start c = c .before .before .before .before .before .before .before .before .before
 
 abbrev given-to : tie.In-loop Inv-loop μ-loop → Given
 given-to c = given (now (start c .args .container)) (now (start c .args .draws))
@@ -54,25 +54,28 @@ inside c = omega (arith, c .loop-test .taken, c .before .loop .inv .1)
 
 -- the step was taken
 abbrev turn : tie.After-take-step Inv-loop μ-loop → tie.In-loop Inv-loop μ-loop
-turn c = c .before .before .before .before .before .before
+turn c = c .before .before .before .before .before .before .before
 
-known : (c : tie.After-take-step Inv-loop μ-loop) → c .before .before .before .before .before .step-number .result ≡ stepNumber (given-to (turn c)) (turn c .before .loop .index)
-known c = c .before .before .before .before .before .step-number .ensures (now (start (turn c) .args .draws)) (start (turn c) .pre .0) (inside (turn c))
+known : (c : tie.After-take-step Inv-loop μ-loop) → c .before .before .before .before .before .before .step-number .result ≡ stepNumber (given-to (turn c)) (turn c .before .loop .index)
+known c = c .before .before .before .before .before .before .step-number .ensures (now (start (turn c) .args .draws)) (start (turn c) .pre .0) (inside (turn c))
 
 going : (c : tie.In-loop Inv-loop μ-loop)
-    → Going (given-to c) (work (now (start c .args .values)) (now (start c .args .labels))) (now (start c .args .trace)) (c .before .loop .index) (c .before .loop .used)
-    (work (c .before .loop .values) (c .before .loop .labels)) (c .before .loop .trace) (c .before .loop .stack)
+    → Going (given-to c) (memoryOf (now (start c .args .values)) (now (start c .args .labels)) (now (start c .args .marks))) (now (start c .args .trace)) (c .before .loop .index) (c .before .loop .used)
+    (memoryOf (c .before .loop .values) (c .before .loop .labels) (c .before .loop .marks)) (c .before .loop .trace) (c .before .loop .stack)
 going c = c .before .loop .inv .2
 
 steady : (c : tie.In-loop Inv-loop μ-loop)
     → Steady (given-to c) (stepNumber (given-to c) (c .before .loop .index))
-    (work (c .before .loop .values) (c .before .loop .labels)) (c .before .loop .stack)
+    (memoryOf (c .before .loop .values) (c .before .loop .labels) (c .before .loop .marks)) (c .before .loop .stack)
 steady c = go-steady (start c .pre .0) (start c .pre .1) (going c) (inside c)
+
+many : (c : tie.In-loop Inv-loop μ-loop) → markRoom ≤ length (c .before .loop .marks)
+many c = go-marks (start c .pre .0) (start c .pre .1) (going c)
 
 -- with the draws that are left
 taken : (c : tie.After-take-step Inv-loop μ-loop) → let i = turn c in let g = given-to i in
-    Taken (g .container) (drop (i .before .loop .used) (g .draws)) (c .before .before .before .before .before .step-number .result)
-    (work (i .before .loop .values) (i .before .loop .labels)) (i .before .loop .stack) (c .take-step .result) (work (c .take-step .last .1 .1 .0) (c .take-step .last .1 .1 .1 .0))
+    Taken (g .container) (drop (i .before .loop .used) (g .draws)) (c .before .before .before .before .before .before .step-number .result)
+    (memoryOf (i .before .loop .values) (i .before .loop .labels) (i .before .loop .marks)) (i .before .loop .stack) (c .take-step .result) (memoryOf (c .take-step .last .1 .1 .0) (c .take-step .last .1 .1 .1 .0) (c .take-step .last .1 .1 .1 .1 .0))
 taken c =
     let draws = now (start (turn c) .args .draws) in
     let used = turn c .before .loop .used in
@@ -103,18 +106,26 @@ take-step-requires c κs = search needs
 enum-known-answer : tie.Need-enum-known-answer Inv-loop μ-loop
 enum-known-answer c = search needs
 
+-- what the steps have kept when one is refused
+kept-so : (k : tie.After-take-step Inv-loop μ-loop) → let a = start (turn k) .args in
+    AllKept (memoryOf (now (a .values)) (now (a .labels)) (now (a .marks))) (memoryOf (k .take-step .last .1 .1 .0) (k .take-step .last .1 .1 .1 .0) (k .take-step .last .1 .1 .1 .1 .0))
+kept-so k = let i = turn k in all-then (going i .kept) (done-so _ (i .before .loop .used) (steady i) (known k) (taken k) .kept)
+
 same-length : tie.Need-same-length Inv-loop μ-loop
-same-length c = search needs
+same-length c = kept-so (c .before .before .before .before .before .before .before .before) .work .as-many-values
 
 same-length-2 : tie.Need-same-length-2 Inv-loop μ-loop
-same-length-2 c = search needs
+same-length-2 c = kept-so (c .before .before .before .before .before .before .before .before) .work .as-many-labels
 
 same-length-3 : tie.Need-same-length-3 Inv-loop μ-loop
-same-length-3 c = search needs
+same-length-3 c = kept-so (c .before .before .before .before .before .before .before .before) .marks .as-many
+
+same-length-4 : tie.Need-same-length-4 Inv-loop μ-loop
+same-length-4 c = search needs
 
 returns : tie.Need-returns Inv-loop μ-loop
 returns c =
-    let k = c .before .before .before .before .before .before in
+    let k = c .before .before .before .before .before .before .before .before in
     let i = turn k in
     go-refused (start i .pre .0) (start i .pre .1) (going i) (inside i) (done-so _ (i .before .loop .used) (steady i) (known k) (taken k)) _ (c .before .answer .given .1)
 
@@ -123,18 +134,21 @@ enum-told c = search needs
 
 never-requires : tie.Need-never-requires Inv-loop μ-loop
 never-requires c κs =
-    let k = c .before .before .before .before .before in
+    let k = c .before .before .before .before .before .before .before in
     let i = turn k in
     go-fits (start i .pre .0) (start i .pre .1) (going i) (inside i) (done-so _ (i .before .loop .used) (steady i) (known k) (taken k)) (c .enum-told .given .1)
-
-same-length-4 : tie.Need-same-length-4 Inv-loop μ-loop
-same-length-4 c = search needs
 
 same-length-5 : tie.Need-same-length-5 Inv-loop μ-loop
 same-length-5 c = search needs
 
 same-length-6 : tie.Need-same-length-6 Inv-loop μ-loop
 same-length-6 c = search needs
+
+same-length-7 : tie.Need-same-length-7 Inv-loop μ-loop
+same-length-7 c = search needs
+
+same-length-8 : tie.Need-same-length-8 Inv-loop μ-loop
+same-length-8 c = search needs
 
 returns-2 : tie.Need-returns-2 Inv-loop μ-loop
 returns-2 c = absurd (c .never .ensures)
@@ -145,7 +159,7 @@ enum-told-2 c = search needs
 write-step-requires : tie.Need-write-step-requires Inv-loop μ-loop
 write-step-requires c κs =
     let m = c .before .before .before in
-    let k = m .before .before .before .before .before in
+    let k = m .before .before .before .before .before .before .before in
     let i = turn k in
     let made = m .enum-told2 .given .1 in (
       some-made _ (i .before .loop .used) (steady i) (known k) (taken k) made,
@@ -161,14 +175,14 @@ abbrev made-is : tie.After-draws-used Inv-loop μ-loop → tie.After-enum-told2 
 made-is c = c .before .before .before .before .before .before .before
 
 abbrev ended : tie.After-draws-used Inv-loop μ-loop → tie.After-take-step Inv-loop μ-loop
-ended c = made-is c .before .before .before .before .before
+ended c = made-is c .before .before .before .before .before .before .before
 
 used-is : (c : tie.After-draws-used Inv-loop μ-loop) → let k = ended c in let i = turn k in
-    c .draws-used .result ≡ drawsUsed (stepNumber (given-to i) (i .before .loop .index)) (length (top (stackIn (work (i .before .loop .values) (i .before .loop .labels)) (i .before .loop .stack)) .rows))
+    c .draws-used .result ≡ drawsUsed (stepNumber (given-to i) (i .before .loop .index)) (length (top (stackIn (memoryOf (i .before .loop .values) (i .before .loop .labels) (i .before .loop .marks)) (i .before .loop .stack)) .rows))
 used-is c =
     let k = ended c in
     let i = turn k in
-    c .draws-used .ensures ∙ ap₂ drawsUsed (known k) (top-rows (work (i .before .loop .values) (i .before .loop .labels)) (i .before .loop .stack) (going i .is-ready) (k .before .before .before .before .live-table .ensures))
+    c .draws-used .ensures ∙ ap₂ drawsUsed (known k) (top-rows (memoryOf (i .before .loop .values) (i .before .loop .labels) (i .before .loop .marks)) (i .before .loop .stack) (going i .is-ready) (many i) (k .before .before .before .before .before .live-table .ensures))
 
 -- the number of draws is one of the machine's
 few-draws : (c : tie.Start Inv-loop μ-loop) → length (now (c .args .draws)) < 2 ^ 64
@@ -195,7 +209,8 @@ loop-again c =
     let k = ended c in
     let i = turn k in
     let made = made-is c .enum-told2 .given .1 in
-    let line = line-made _ (i .before .loop .used) (steady i) (known k) (taken k) made _ (c .before .before .before .write-step .ensures) in (
+    let done = done-so _ (i .before .loop .used) (steady i) (known k) (taken k) in
+    let line = line-made _ (i .before .loop .used) (steady i) (known k) (taken k) made _ (omega (arith, many i, done .kept .marks .as-many)) (c .before .before .before .write-step .ensures) in (
       omega (arith, i .loop-test .taken),
       i .before .loop .inv .1,
       go-on (start i .pre .0) (start i .pre .1) (going i) (inside i) (done-so _ (i .before .loop .used) (steady i) (known k) (taken k)) made _ _ (used-is c) line,
@@ -205,19 +220,22 @@ loop-again c =
 live-table-requires-2 : tie.Need-live-table-requires-2 Inv-loop μ-loop
 live-table-requires-2 c κs = search needs
 
-same-length-7 : tie.Need-same-length-7 Inv-loop μ-loop
-same-length-7 c = search needs
-
-same-length-8 : tie.Need-same-length-8 Inv-loop μ-loop
-same-length-8 c = search needs
-
 same-length-9 : tie.Need-same-length-9 Inv-loop μ-loop
 same-length-9 c = search needs
+
+same-length-10 : tie.Need-same-length-10 Inv-loop μ-loop
+same-length-10 c = search needs
+
+same-length-11 : tie.Need-same-length-11 Inv-loop μ-loop
+same-length-11 c = search needs
+
+same-length-12 : tie.Need-same-length-12 Inv-loop μ-loop
+same-length-12 c = search needs
 
 returns-3 : tie.Need-returns-3 Inv-loop μ-loop
 returns-3 c =
     let e = c .before .before in
-    let s = e .before .before .before .before .before .before .before in
+    let s = e .before .before .before .before .before .before .before .before in
     go-end (s .pre .0) (s .pre .1) (e .loop .inv .2) _ (e .loop .inv .1) (omega (arith, e .loop .inv .0, c .before .loop-test .left)) (c .live-table2 .ensures)
 
 pub take-steps-spec : {M : Type 1} → statement M
@@ -241,12 +259,14 @@ take-steps-spec =
     same-length
     same-length-2
     same-length-3
+    same-length-4
     returns
     enum-told
     never-requires
-    same-length-4
     same-length-5
     same-length-6
+    same-length-7
+    same-length-8
     returns-2
     enum-told-2
     write-step-requires
@@ -256,7 +276,8 @@ take-steps-spec =
     loop-less
     loop-again
     live-table-requires-2
-    same-length-7
-    same-length-8
     same-length-9
+    same-length-10
+    same-length-11
+    same-length-12
     returns-3)

@@ -11,7 +11,7 @@ use Rattle.walk.proofs.steps.walk.Statement.{statement}
 use Rattle.walk.proofs.steps.walk.Tie as tie
 
 -- the slices are long enough
-long : (c : tie.Else1) → let a = c .before .before .before .before .before .args in walkRoom (length (now (a .values))) (length (now (a .labels))) (length (now (a .trace))) ≡ true
+long : (c : tie.Else1) → let a = c .before .before .before .before .before .before .args in walkRoom (length (now (a .values))) (length (now (a .labels))) (length (now (a .marks))) (length (now (a .trace))) ≡ true
 long c = sym (c .before .has-room .ensures) ∙ not-false _ (c .if1 .left)
 
 has-room-requires : tie.Need-has-room-requires
@@ -31,7 +31,7 @@ enum-told c = search needs
 
 take-steps-requires : tie.Need-take-steps-requires
 take-steps-requires c κs =
-    let k = c .before .before .before in
+    let k = c .before .before .before .before in
     (sym (k .before .before .check-input .ensures) ∙ ap inputSays (k .enum-told .given .1), long (k .before .before .before))
 
 returns-2 : tie.Need-returns-2
@@ -47,6 +47,9 @@ same-length-2 c = search needs
 
 same-length-3 : tie.Need-same-length-3
 same-length-3 c = search needs
+
+same-length-4 : tie.Need-same-length-4
+same-length-4 c = search needs
 
 returns-3 : tie.Need-returns-3
 returns-3 c = search needs
@@ -65,4 +68,5 @@ walk-spec =
     same-length
     same-length-2
     same-length-3
+    same-length-4
     returns-3)
