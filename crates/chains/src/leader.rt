@@ -5,6 +5,8 @@ ghost use Prim.Native.Nat.{ℕ, _+_, _*_, _≤_, _<_};
 ghost use lib.ListN.{length, getD};
 ghost use Rattle.cells.specs.promises.Cells.{cellsOf, tableRows};
 ghost use Rattle.chains.specs.promises.Chains as spec;
+ghost use Rattle.chains.specs.promises.Hash.{hashAt, Hashed};
+use super::hash::key_hash;
 use comparison::same;
 
 // For each row the first row with its keys.
@@ -14,13 +16,16 @@ pub fn leaders(values: &[i64], at: usize, rows: usize, columns: usize, keys: u32
 {
     let mut found = [0usize; 256];
     let mut leads = [0usize; 256];
+    let mut hashes = [0u64; 256];
     let mut count = 0;
     let mut row = 0;
     while row < rows {
-        let first = first_same(values, &leads, count, at, columns, keys, row);
+        let hash = key_hash(values, at + row * columns, columns, keys);
+        let first = first_same(values, &leads, &hashes, count, at, columns, keys, row, hash);
         found[row] = first;
         if first == row {
             leads[count] = row;
+            hashes[count] = hash;
             count += 1;
         }
         row += 1;
@@ -45,18 +50,22 @@ pub fn chain(leaders: &[usize; 256], rows: usize) -> [usize; 256]
     next
 }
 
-// The first row with the keys of a row: one of the rows that lead groups, or the row itself.
+// The first row with the keys of a row: one of the rows that lead groups, or the row itself. Where hash values differ, the keys are not looked at.
 fn first_same(
     values: &[i64],
     leads: &[usize; 256],
+    hashes: &[u64; 256],
     count: usize,
     at: usize,
     columns: usize,
     keys: u32,
     row: usize,
+    hash: u64,
 ) -> usize
     requires { ⌜ (row < 256) × (columns ≤ 8) × (at + (row * columns + columns) ≤ length (now values)) ⌝ }
     requires { ⌜ (length (now leads) ≡ 256) × (count ≤ row) × ((i : ℕ) → i < count → getD (now leads) i 0 < row) ⌝ }
+    requires { ⌜ Hashed keys columns (now values) at (now leads) count (now hashes)
+        × (hash ≡ hashAt keys (now values) (at + row * columns) columns) ⌝ }
     requires { ⌜ ((labels : List ℕ) → at + (row * columns + columns) ≤ length labels
         → spec.Leads keys columns (tableRows columns row (cellsOf (now values) labels) at) row (now leads) count) ⌝ }
     ensures { λ r. ⌜ ((labels : List ℕ) → at + (row * columns + columns) ≤ length labels
@@ -65,9 +74,11 @@ fn first_same(
     let own = at + row * columns;
     let mut index = 0;
     while index < count {
-        let other = leads[index];
-        if same_keys(values, at + other * columns, own, columns, keys) {
-            return other;
+        if hashes[index] == hash {
+            let other = leads[index];
+            if same_keys(values, at + other * columns, own, columns, keys) {
+                return other;
+            }
         }
         index += 1;
     }

@@ -2,15 +2,16 @@
 use Prim.Native.Nat.{ℕ, zero, suc, _+_, _*_, _/_, _%_, _^_, _≤_, _<_}
 use mathlib.Core.Path.{_≡_, refl, sym, ap, _∙_}
 use mathlib.Core.Bool.{Bool, true, false}
-use mathlib.Core.List.{List, [], _∷_, _++_}
-use native.Mathlib.Nat.{pow-le-pow-right}
+use mathlib.Core.List.{List, [], _∷_, _++_, append-assoc}
+use native.Mathlib.Nat.{add-zero, zero-add, pow-le-pow-right}
 use native.Mathlib.Omega.{arith}
 use lib.Dec.{ltb}
 use lib.IntN.{ℤ}
-use lib.ListN.{length, length-append}
+use lib.ListN.{length, getD, length-append}
 use lib.Signed.{mag, natAbs-le}
 use borrow.Author.Tests.{ltb-true, ltb-false, lt-ltb, le-ltb}
 use Rattle.csv_text.specs.Text.{digitsOf, digits, decimal}
+use Rattle.csv_writer.specs.promises.Cells.{pairOf, pairsFrom, digitPairs}
 use Rattle.value.specs.Pattern.{negative, magnitudeOf}
 
 one : (k n : ℕ) → n < 10 → digitsOf k n ≡ (48 + n) ∷ []
@@ -57,6 +58,32 @@ by-size {P} n f g = go (ltb n 10) refl
 pub some-digits : (n : ℕ) → 0 < length (digits n)
 some-digits n = by-size n (λ h. rw (digits-one n h) (omega arith)) (λ h. omega (arith, more-length n h))
 
+-- ---- two digits at a time
+
+pub digits-two : (n : ℕ) → 10 ≤ n → n < 100 → digits n ≡ pairOf n
+digits-two n h k = digits-more n h ∙ rw (digits-one (n / 10) (omega arith))
+
+pub digits-pair : (n : ℕ) → 100 ≤ n → digits n ≡ digits (n / 100) ++ pairOf (n % 100)
+digits-pair n h =
+    let rest : n / 10 / 10 ≡ n / 100 = omega arith in
+    let tens : n / 10 % 10 ≡ n % 100 / 10 = omega arith in
+    let units : n % 10 ≡ n % 100 % 10 = omega arith in
+    digits-more n (omega arith) ∙ rw (digits-more (n / 10) (omega arith), rest, tens, units) (append-assoc (digits (n / 100)) ((48 + n % 100 / 10) ∷ []) _)
+
+-- in the list of all pairs
+from-at : (count n i : ℕ) → i < count → (getD (pairsFrom count n) (2 * i) 0 ≡ 48 + (n + i) / 10) × (getD (pairsFrom count n) (2 * i + 1) 0 ≡ 48 + (n + i) % 10)
+from-at zero n i h = absurd (omega arith)
+from-at (suc count) n zero h = rw add-zero (refl, refl)
+from-at (suc count) n (suc i) h =
+    let twice : 2 * suc i ≡ suc (suc (2 * i)) = omega arith in
+    let twice-1 : suc (suc (2 * i)) + 1 ≡ suc (suc (2 * i + 1)) = omega arith in
+    let next : n + suc i ≡ suc n + i = omega arith in
+    rw (twice, twice-1, next) (from-at count (suc n) i (omega arith))
+
+pub pair-at : (i : ℕ) → i < 100 → (getD digitPairs (2 * i) 0 ≡ 48 + i / 10) × (getD digitPairs (2 * i + 1) 0 ≡ 48 + i % 10)
+unfolding digitPairs
+pair-at i h = rw zero-add at (from-at 100 0 i h)
+
 -- a number below 10^k has at most k digits, and one from there on has more
 pub few : (k n : ℕ) → n < 10 ^ suc k → length (digits n) ≤ suc k
 few zero n h = rw (digits-one n h) (omega arith)
@@ -69,20 +96,8 @@ many (suc k) n h =
     let l : 10 ≤ n = omega (arith, pow-le-pow-right {n = 10} (omega arith) {i = 1} {j = suc k} (omega arith)) in
     omega (arith, more-length n l, many k (n / 10) (omega arith))
 
-pub at-most : (k n : ℕ) → 1 ≤ k → n < 10 ^ k → length (digits n) ≤ k
-at-most zero n h l = absurd (omega arith)
-at-most (suc k) n h l = few k n l
-
--- the powers of ten in the machine's numbers
-pub low-power : (k n : ℕ) → 10 ^ k ≤ n → n ≤ 2 ^ 63 → k < 19
-low-power k n h g = go (ltb k 19) refl
-  where
-    go : (t : Bool) → ltb k 19 ≡ t → k < 19
-    go true e = ltb-true k 19 e
-    go false e = absurd (omega (arith, pow-le-pow-right {n = 10} (omega arith) {i = 19} {j = k} (ltb-false k 19 e)))
-
-pub next-power : (k : ℕ) → k < 19 → 10 ^ k * 10 < 2 ^ 64
-next-power k h = omega (arith, pow-le-pow-right {n = 10} (omega arith) {i = k} {j = 18} (omega arith))
+pub low-power : (k : ℕ) → k ≤ 16 → 10 ^ k ≤ 10 ^ 16
+low-power k h = pow-le-pow-right {n = 10} (omega arith) {i = k} {j = 16} h
 
 -- ---- a value's sign and size
 

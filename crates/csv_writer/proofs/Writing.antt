@@ -1,32 +1,31 @@
 -- A text written piece by piece. Assumes nothing.
-use Prim.Native.Nat.{ℕ, zero, suc, _+_, _-_, _/_, _%_, _≤_, _<_}
-use mathlib.Core.Path.{_≡_, refl, sym, ap, _∙_}
-use mathlib.Core.List.{List, [], _∷_, _++_, append-nil}
+use Prim.Native.Nat.{ℕ, _+_, _-_, _/_, _%_, _≤_, _<_}
+use mathlib.Core.Path.{_≡_, sym, ap, _∙_}
+use mathlib.Core.List.{List, [], _∷_, _++_, append-nil, append-assoc}
 use native.Mathlib.Nat.{add-zero}
 use native.Mathlib.Numerals.{add-one}
 use native.Mathlib.Omega.{arith}
-use lib.ListN.{length, getD, take, drop, set, length-append, length-drop, drop-of-length-le}
-use lib.Seq.{take-all, length-take-le, take-suc, append-snoc, set-at, drop-at, drop-drop, take-add, take-append-seam, drop-append-seam}
+use lib.ListN.{length, getD, take, drop, set, length-append, length-drop}
+use lib.Seq.{take-all, length-take-le, take-suc, take-take, drop-drop, take-add, take-append-seam, drop-append-seam}
 use Rattle.cells.specs.promises.Written.{Written}
-use Rattle.cells.proofs.Written.{nothing-written, one-written, then-written, as-long}
+use Rattle.cells.proofs.Written.{nothing-written, one-written, then-written, as-long, below-written, from-written}
 use Rattle.csv_text.specs.Text.{digits}
-use Rattle.csv_writer.proofs.Digits.{digits-one, digits-more, more-length, by-size}
+use Rattle.csv_writer.specs.promises.Cells.{pairOf}
+use Rattle.csv_writer.proofs.Digits.{digits-pair}
 
 module _ {A : Type 0} where
   pub one-put : (list : List A) (at : ℕ) (x : A) → at < length list → Written list at (x ∷ []) (set list at x)
   one-put list at x h = rw add-zero at (one-written (nothing-written list at (omega arith)) x (omega arith))
 
-  -- one more, right before what was written
-  pub one-before : {list done after : List A} (at : ℕ) (x : A) → Written list (suc at) done after → Written list at (x ∷ done) (set after at x)
-  one-before {list} {done} {after} at x w =
-      let e : suc at + length done ≡ at + suc (length done) = omega arith in
-      let h : at < length list = omega (arith, w .room) in
-      let rest = drop (at + suc (length done)) list in
-      let m : after ≡ take at list ++ (getD list at x ∷ (done ++ rest))
-      = w .is ∙ rw (e, take-suc list at x h) (append-snoc (take at list) (getD list at x) (done ++ rest)) in
+  -- more written, right before what was written
+  pub before-written : {list done mid more after : List A} {at to : ℕ} → to ≡ at + length more → Written list to done mid → Written mid at more after → Written list at (more ++ done) after
+  before-written {list} {done} {mid} {more} {after} {at} {to} e w u =
+      let longer : at + length (more ++ done) ≡ to + length done = simp length-append (omega arith) in
+      let front : take at mid ≡ take at list
+      = sym (take-take at to mid (omega arith)) ∙ ap (take at) (below-written w) ∙ take-take at to list (omega arith) in
       record {
-        room = omega (arith, w .room);
-        is = ap (λ (l : List A). set l at x) m ∙ set-at (take at list) (getD list at x) (done ++ rest) x at (length-take-le at list (omega arith));
+        room = omega (arith, longer, w .room);
+        is = u .is ∙ rw (front, ← e, from-written w, longer) (ap (λ (t : List A). take at list ++ t) (sym (append-assoc more done (drop (to + length done) list))));
       }
 
   -- one more of a list that is copied
@@ -78,43 +77,42 @@ module _ {A : Type 0} where
           left = rw front (sym (drop-drop (length piece) (to - at) whole) ∙ rw (s .left) (drop-append-seam piece more));
         }
 
--- ---- digits, the last one first
+-- ---- digits, the last two first
 
--- the last digits of a number, so many
-abbrev pub lastDigits : ℕ → ℕ → List ℕ
-lastDigits zero n = []
-lastDigits (suc k) n = lastDigits k (n / 10) ++ (48 + n % 10) ∷ []
+-- the digits of `rest` are left to write, so many; the last ones of n are written
+pub record DigitsLeft (list : List ℕ) (at n : ℕ) (after : List ℕ) (left rest : ℕ) : Type 0 where
+  pub counted : left ≡ length (digits rest)
+  pub last : List ℕ
+  pub parted : digits n ≡ digits rest ++ last
+  pub written : Written list (at + left) last after
 
-last-length : (k n : ℕ) → length (lastDigits k n) ≡ k
-last-length zero n = refl
-last-length (suc k) n = simp length-append (omega (arith, last-length k (n / 10)))
+pub digits-begin : (list : List ℕ) (at n count : ℕ) → count ≡ length (digits n) → at + count ≤ length list → DigitsLeft list at n list count n
+digits-begin list at n count e h =
+    record { counted = e; last = []; parted = sym (append-nil (digits n)); written = nothing-written list (at + count) h }
 
-small : (k n : ℕ) → k ≡ 0 → n < 10 → digits n ≡ lastDigits (suc k) n
-small k n z h = let m : n % 10 ≡ n = omega arith in rw (z, m) (digits-one n h)
+module _ {list mid : List ℕ} {at n left rest : ℕ} (s : DigitsLeft list at n mid left rest) where
+  pub left-room : at + left ≤ length mid
+  left-room = omega (arith, s .written .room, as-long (s .written))
 
-all-last : (k n : ℕ) → length (digits n) ≡ k → digits n ≡ lastDigits k n
-all-last zero n e = by-size n (λ h. absurd (omega (arith, ap length (digits-one n h)))) (λ h. absurd (omega (arith, more-length n h)))
-all-last (suc k) n e =
-    by-size n (λ h. small k n (omega (arith, ap length (digits-one n h))) h)
-    (λ h. digits-more n h ∙ ap (λ (l : List ℕ). l ++ (48 + n % 10) ∷ []) (all-last k (n / 10) (omega (arith, more-length n h))))
+  two-more : 100 ≤ rest → left ≡ length (digits (rest / 100)) + 2
+  two-more h = s .counted ∙ ap length (digits-pair rest h) ∙ simp length-append
 
--- what is left to write of them, and what is written
-abbrev pub DigitsLeft : ℕ → ℕ → ℕ → Type 0
-DigitsLeft n left rest = digits n ≡ lastDigits left rest ++ drop left (digits n)
+  pub pair-left : 100 ≤ rest → 2 ≤ left
+  pair-left h = omega (arith, two-more h)
 
-pub digits-begin : (n count : ℕ) → count ≡ length (digits n) → DigitsLeft n count n
-digits-begin n count e = all-last count n (sym e) ∙ rw (drop-of-length-le (digits n) {i = count} (omega arith)) (sym (append-nil (lastDigits count n)))
+  pub pair-put : {after : List ℕ} → 100 ≤ rest → Written mid (at + (left - 2)) (pairOf (rest % 100)) after → DigitsLeft list at n after (left - 2) (rest / 100)
+  pair-put h u =
+      let m = two-more h in
+      record {
+        counted = omega arith;
+        last = pairOf (rest % 100) ++ s .last;
+        parted = s .parted ∙ rw (digits-pair rest h) (append-assoc (digits (rest / 100)) (pairOf (rest % 100)) (s .last));
+        written = before-written (omega arith) (s .written) u;
+      }
 
-pub digit-next : (n left rest : ℕ) → 0 < left → DigitsLeft n left rest → DigitsLeft n (left - 1) (rest / 10) × (drop (left - 1) (digits n) ≡ (48 + rest % 10) ∷ drop left (digits n))
-digit-next n zero rest h e = absurd (omega arith)
-digit-next n (suc l) rest h e =
-    let z : suc l - 1 ≡ l = omega arith in
-    let f : digits n ≡ lastDigits l (rest / 10) ++ ((48 + rest % 10) ∷ drop (suc l) (digits n)) = e ∙ append-snoc (lastDigits l (rest / 10)) (48 + rest % 10) (drop (suc l) (digits n)) in
-    let g : drop l (digits n) ≡ (48 + rest % 10) ∷ drop (suc l) (digits n) = ap (drop l) f ∙ drop-at (lastDigits l (rest / 10)) _ l (last-length l (rest / 10)) in
-    rw z (rw g f, g)
+  module _ {piece : List ℕ} (e : digits rest ≡ piece) where
+    pub last-room : at + length piece ≤ length mid
+    last-room = omega (arith, left-room, s .counted, ap length e)
 
-pub digit-put : {list after : List ℕ} (at n left rest : ℕ) → 0 < left → DigitsLeft n left rest → Written list (at + left) (drop left (digits n)) after
-    → Written list (at + (left - 1)) (drop (left - 1) (digits n)) (set after (at + (left - 1)) (48 + rest % 10))
-digit-put at n left rest h e w =
-    let f : at + left ≡ suc (at + (left - 1)) = omega arith in
-    rw (digit-next n left rest h e .1) (one-before (at + (left - 1)) (48 + rest % 10) (rw f at w))
+    pub last-put : {after : List ℕ} → Written mid at piece after → Written list at (digits n) after
+    last-put u = rw (s .parted, e) (before-written (omega (arith, s .counted, ap length e)) (s .written) u)

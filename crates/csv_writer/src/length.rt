@@ -1,6 +1,6 @@
 // The length of a text.
 ghost use mathlib.Core.Path.{_≡_};
-ghost use Prim.Native.Nat.{_≤_, _^_};
+ghost use Prim.Native.Nat.{_+_, _^_, _≤_, _<_};
 ghost use lib.ListN.{length};
 ghost use Rattle.csv_text.specs.Text.{digits, decimal};
 ghost use Rattle.csv_writer.specs.promises.Cells.{separator, nextLeft};
@@ -9,18 +9,43 @@ use cells::table_within;
 use value::pattern::magnitude;
 use value::pattern::negative;
 
-// How many digits a number has, by the powers of ten.
+// How many digits a number has, where these are one to four more than `below`; `power` is 10^below.
+fn count_from(n: u64, below: usize, power: u64) -> usize
+    requires { ⌜ (below ≤ 16) × (power ≡ 10 ^ below) × (below < length (digits n)) × (length (digits n) ≤ below + 4) ⌝ }
+    ensures { λ r. ⌜ r ≡ length (digits n) ⌝ }
+{
+    if n < 100 * power {
+        if n < 10 * power { below + 1 } else { below + 2 }
+    } else {
+        if n < 1000 * power {
+            below + 3
+        } else {
+            below + 4
+        }
+    }
+}
+
+// How many digits a number has, by the powers of ten, four at a time.
 pub fn digit_count(n: u64) -> usize
     requires { ⌜ n ≤ 2 ^ 63 ⌝ }
     ensures { λ r. ⌜ r ≡ length (digits n) ⌝ }
 {
-    let mut count = 1;
-    let mut limit = 10;
-    while limit <= n {
-        limit *= 10;
-        count += 1;
+    if n < 10 {
+        return 1;
     }
-    count
+    if n < 10_000 {
+        return count_from(n, 0, 1);
+    }
+    if n < 100_000_000 {
+        return count_from(n, 4, 10_000);
+    }
+    if n < 1_000_000_000_000 {
+        return count_from(n, 8, 100_000_000);
+    }
+    if n < 10_000_000_000_000_000 {
+        return count_from(n, 12, 1_000_000_000_000);
+    }
+    count_from(n, 16, 10_000_000_000_000_000)
 }
 
 // How many bytes a value has.

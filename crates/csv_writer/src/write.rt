@@ -1,10 +1,10 @@
 // A text, written into a slice that the caller lends.
 ghost use mathlib.Core.Path.{_≡_};
-ghost use Prim.Native.Nat.{_+_, _*_, _≤_};
+ghost use Prim.Native.Nat.{_+_, _*_, _≤_, _<_};
 ghost use lib.ListN.{length, take};
 ghost use Rattle.cells.specs.promises.Written.{Written};
 ghost use Rattle.csv_text.specs.Text.{digits, decimal, header, lineEnd};
-ghost use Rattle.csv_writer.specs.promises.Cells.{separator, spelled};
+ghost use Rattle.csv_writer.specs.promises.Cells.{pairOf, digitPairs, separator, spelled};
 ghost use Rattle.csv_writer.specs.promises.Writing.{writingOf, textAfter};
 use crate::length::digit_count;
 use crate::length::next_left;
@@ -14,33 +14,54 @@ use csv_text::name_byte;
 use value::pattern::magnitude;
 use value::pattern::negative;
 
-// Writes the digits of a number from a place on, the last one first.
-fn put_digits(text: &mut [u8], at: usize, n: u64, count: usize)
-    requires { ⌜ (count ≡ length (digits n)) × (at + count ≤ length (now text)) ⌝ }
+// The two digits of each number below 100, one pair after the other. A function that names this list makes a copy of it at each call, so
+// the functions for one value borrow it.
+const PAIRS: [u8; 200] =
+    *b"00010203040506070809101112131415161718192021222324252627282930313233343536373839404142434445464748495051525354555657585960616263646566676869707172737475767778798081828384858687888990919293949596979899";
+
+// Writes the two digits of a number below 100 from a place on.
+fn put_pair(text: &mut [u8], at: usize, pair: usize, pairs: &[u8; 200])
+    requires { ⌜ (pair < 100) × (at + 2 ≤ length (now text)) × (now pairs ≡ digitPairs) ⌝ }
+    ensures { λ _. ⌜ Written (now (text .entry)) at (pairOf pair) (now (text .exit)) ⌝ }
+{
+    let tens = pairs[2 * pair];
+    let units = pairs[2 * pair + 1];
+    text[at] = tens;
+    text[at + 1] = units;
+}
+
+// Writes the digits of a number from a place on, the last two first.
+fn put_digits(text: &mut [u8], at: usize, n: u64, count: usize, pairs: &[u8; 200])
+    requires { ⌜ (count ≡ length (digits n)) × (at + count ≤ length (now text)) × (now pairs ≡ digitPairs) ⌝ }
     ensures { λ _. ⌜ Written (now (text .entry)) at (digits n) (now (text .exit)) ⌝ }
 {
     let mut left = count;
     let mut rest = n;
-    while left > 0 {
-        left -= 1;
-        text[at + left] = 48 + (rest % 10) as u8;
-        rest /= 10;
+    while rest >= 100 {
+        left -= 2;
+        put_pair(text, at + left, (rest % 100) as usize, pairs);
+        rest /= 100;
+    }
+    if rest >= 10 {
+        put_pair(text, at, rest as usize, pairs);
+    } else {
+        text[at] = 48 + rest as u8;
     }
 }
 
 // Writes a value from a place on, and answers where it ends.
-fn put_value(text: &mut [u8], at: usize, v: i64) -> usize
-    requires { ⌜ at + length (decimal v) ≤ length (now text) ⌝ }
+fn put_value(text: &mut [u8], at: usize, v: i64, pairs: &[u8; 200]) -> usize
+    requires { ⌜ (at + length (decimal v) ≤ length (now text)) × (now pairs ≡ digitPairs) ⌝ }
     ensures { λ r. ⌜ (r ≡ at + length (decimal v)) × Written (now (text .entry)) at (decimal v) (now (text .exit)) ⌝ }
 {
     let size = magnitude(v);
     let count = digit_count(size);
     if negative(v) {
         text[at] = b'-';
-        put_digits(text, at + 1, size, count);
+        put_digits(text, at + 1, size, count, pairs);
         return at + 1 + count;
     }
-    put_digits(text, at, size, count);
+    put_digits(text, at, size, count, pairs);
     at + count
 }
 
@@ -89,7 +110,7 @@ fn put_rows(text: &mut [u8], at: usize, values: &[i64], count: usize, columns: u
     let mut left = columns;
     let mut i = 0;
     while i < count {
-        to = put_value(text, to, values[i]);
+        to = put_value(text, to, values[i], &PAIRS);
         to = put_separator(text, to, left);
         left = next_left(columns, left);
         i += 1;

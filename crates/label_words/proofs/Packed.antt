@@ -27,7 +27,7 @@ unfolding packed fieldAt
 packed-fields s t x g d m hs ht hx hg hd hm = omega arith
 
 -- what stands from bit `at` on: what stands above the field there, and the field
-peel : (word at width : ℕ) → word / 2 ^ at ≡ word / 2 ^ (at + width) * 2 ^ width + fieldAt word at width
+pub peel : (word at width : ℕ) → word / 2 ^ at ≡ word / 2 ^ (at + width) * 2 ^ width + fieldAt word at width
 unfolding fieldAt
 peel word at width = rw (← shr-shr word at width) (sym (split (word / 2 ^ at) width))
 

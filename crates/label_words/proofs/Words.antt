@@ -28,6 +28,10 @@ field-of-upper word a b width = rw shr-shr
 counted : ℕ → Bool
 counted s = eqb (ones s) (one (bitAt s 3) + one (bitAt s 2) + one (bitAt s 1) + one (bitAt s 0))
 
+pub ones-of-four : (s : ℕ) → s < 16 → ones s ≡ one (bitAt s 3) + one (bitAt s 2) + one (bitAt s 1) + one (bitAt s 0)
+unfolding counted ones fieldAt
+ones-of-four s h = eqb→eq _ _ (below 16 counted tt s h)
+
 -- a stage's place in the falling order; a clear label comes last
 abbrev rank : Highest → ℕ
 rank H = 0
@@ -69,8 +73,8 @@ module _ (word : ℕ) (fits : word < 2 ^ 32) where
 
   -- the stage bits of the word are those of its top four bits
   pub count-is : ones (word / 2 ^ 28) ≡ stageCount word
-  unfolding counted ones stageCount fieldAt
-  count-is = rw (← field-of-upper word 28 3 1, ← field-of-upper word 28 2 1, ← field-of-upper word 28 1 1, ← field-of-upper word 28 0 1) (eqb→eq _ _ (below 16 counted tt (word / 2 ^ 28) top-lt))
+  unfolding stageCount
+  count-is = rw (← field-of-upper word 28 3 1, ← field-of-upper word 28 2 1, ← field-of-upper word 28 1 1, ← field-of-upper word 28 0 1) (ones-of-four (word / 2 ^ 28) top-lt)
 
   pub zeros-above : 28 ≤ leadingZeros 32 (word / 2 ^ 28)
   unfolding padded leadingZeros

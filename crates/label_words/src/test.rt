@@ -1,6 +1,4 @@
 // The test of a word, and the stages that it has.
-ghost use lib.Dec.{eqb, leb};
-ghost use mathlib.Core.Bool.{cond, _&&_};
 ghost use mathlib.Core.Path.{_≡_};
 ghost use Rattle.label_words.specs.Stages.{stageCount, highest};
 ghost use Rattle.label_words.specs.WellFormed.{transformFits, aggregateFits, noiseFits, wellFormed};
@@ -29,45 +27,35 @@ pub fn highest_stage(word: u32) -> Highest
     }
 }
 
-// A number from `low` to `high` where it is asked for, else 0.
-fn within(asked: bool, low: u32, high: u32, number: u32) -> bool
-    ensures { λ r. ⌜ r ≡ cond asked (leb low number && leb number high) (eqb number 0) ⌝ }
-{
-    if asked {
-        (low <= number) & (number <= high)
-    } else {
-        number == 0
-    }
-}
-
-// The fields of stage T.
+// The fields of stage T. The bit of a stage stands above its fields, which are no more than it exactly where it is one or they are zero. So
+// stand the digits below the bit of cut. Of 0 to 7 digits just 0 and 7 leave no one in bits 2 and 1 of the next number.
 fn transform_fits(word: u32) -> bool
     ensures { λ r. ⌜ r ≡ transformFits word ⌝ }
 {
-    (bit(word, 30) | (field(word, 24, 4) == 0)) & within(bit(word, 26), 1, 6, field(word, 10, 3))
+    let digits_lack = bit(word, 26) & ((field(word, 10, 3) + 1) & 6 == 0);
+    ((word & 0x0F00_0000) <= (word & 0x4000_0000))
+        & ((word & 0x0000_1C00) <= (word & 0x0400_0000))
+        & !digits_lack
 }
 
-// The fields of stage A.
+// The fields of stage A, likewise.
 fn aggregate_fits(word: u32) -> bool
     ensures { λ r. ⌜ r ≡ aggregateFits word ⌝ }
 {
-    (bit(word, 29) | (field(word, 16, 5) == 0)) & within(bit(word, 29), 1, 1023, field(word, 0, 10))
+    let minimum_lacks = bit(word, 29) & (field(word, 0, 10) == 0);
+    ((word & 0x001F_03FF) <= (word & 0x2000_0000)) & !minimum_lacks
 }
 
-// The field of stage N.
+// The field of stage N, likewise.
 fn noise_fits(word: u32) -> bool
     ensures { λ r. ⌜ r ≡ noiseFits word ⌝ }
 {
-    bit(word, 28) | (field(word, 23, 1) == 0)
+    (word & 0x0080_0000) <= (word & 0x1000_0000)
 }
 
 // Whether a word is a label.
 pub fn well_formed(word: u32) -> bool
     ensures { λ r. ⌜ r ≡ wellFormed word ⌝ }
 {
-    (field(word, 21, 2) == 0)
-        & (field(word, 13, 3) == 0)
-        & transform_fits(word)
-        & aggregate_fits(word)
-        & noise_fits(word)
+    ((word & 0x0060_E000) == 0) & transform_fits(word) & aggregate_fits(word) & noise_fits(word)
 }

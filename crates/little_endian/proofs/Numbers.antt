@@ -1,11 +1,11 @@
 -- A number is read in two parts, and is 0 past the end. Assumes nothing.
-use Prim.Native.Nat.{ℕ, zero, suc, _+_, _*_, _^_, _≤_}
-use mathlib.Core.Path.{_≡_, refl, sym, _∙_}
+use Prim.Native.Nat.{ℕ, zero, suc, _+_, _-_, _*_, _^_, _≤_}
+use mathlib.Core.Path.{_≡_, refl, sym, ap, _∙_}
 use mathlib.Core.List.{List, [], _∷_}
-use native.Mathlib.Nat.{zero-add, suc-add, pow-zero, pow-suc, one-mul, mul-zero, mul-assoc, mul-comm}
+use native.Mathlib.Nat.{zero-add, suc-add, pow-zero, pow-suc, one-mul, mul-zero, mul-assoc, mul-comm, min-le-left, add-sub-cancel-left}
 use native.Mathlib.Omega.{arith}
-use lib.ListN.{length, getD, take, drop, drop-of-length-le}
-use lib.Seq.{take-nil, drop-drop}
+use lib.ListN.{length, getD, take, drop, drop-of-length-le, length-take}
+use lib.Seq.{take-nil, take-all, drop-drop}
 use Rattle.little_endian.specs.Bytes.{littleEndian, numberAt, byteAt}
 
 one-byte : (l : List ℕ) (at : ℕ) → littleEndian (take 1 (drop at l)) ≡ getD l at 0
@@ -35,3 +35,10 @@ joined bytes at m n e f = rw (e, f, ← drop-drop m at bytes) (sym (parts m n (d
 pub past-end : (bytes : List ℕ) (at width : ℕ) → length bytes ≤ at → 0 ≡ numberAt bytes at width
 unfolding numberAt
 past-end bytes at width h = rw (drop-of-length-le bytes h, take-nil width)
+
+-- the number of the part from a place to the end of its bytes is the number at the place
+pub of-part : (bytes : List ℕ) (at width : ℕ) → numberAt (take (at + width - at) (drop at bytes)) 0 width ≡ numberAt bytes at width
+unfolding numberAt
+of-part bytes at width =
+    rw (add-sub-cancel-left at width)
+    (ap littleEndian (take-all width (take width (drop at bytes)) (rw (length-take width (drop at bytes)) (min-le-left width (length (drop at bytes))))))

@@ -4,4 +4,5 @@ mod Turns
 pub mod Fitting
 pub mod Growing
 pub mod Joining
+mod Keys
 pub mod Marks

@@ -97,8 +97,8 @@ fn unlike(values: &[i64], key: i64, place: usize, step: usize, count: usize) -> 
     requires { ⌜ (step ≤ 8) × (place + count * step < length (now values) + step) ⌝ }
     ensures { λ r. ⌜ (r ≤ count) × ((j : ℕ) → j < r → eqZ key (getD (now (values .entry)) (place + j * step) (pos 0)) ≡ false) ⌝ }
 {
-    let mut at = place;
-    let mut i = 0;
+    let mut i = unlike_fours(values, key, place, step, count);
+    let mut at = place + i * step;
     while i < count {
         let is_key = key == values[at];
         if is_key {
@@ -108,6 +108,35 @@ fn unlike(values: &[i64], key: i64, place: usize, step: usize, count: usize) -> 
         i += 1;
     }
     count
+}
+
+// So many of these, a multiple of four: how many come before the first four with `key` among them.
+fn unlike_fours(values: &[i64], key: i64, place: usize, step: usize, count: usize) -> usize
+    requires { ⌜ (step ≤ 8) × (place + count * step < length (now values) + step) ⌝ }
+    ensures { λ r. ⌜ (r ≤ count) × ((j : ℕ) → j < r → eqZ key (getD (now (values .entry)) (place + j * step) (pos 0)) ≡ false) ⌝ }
+{
+    let mut at = place;
+    let mut i = 0;
+    while 4 <= count - i {
+        if among_four(values, key, at, step) {
+            return i;
+        }
+        at += 4 * step;
+        i += 4;
+    }
+    i
+}
+
+// Whether one of four values, from a place on and `step` apart, is `key`.
+fn among_four(values: &[i64], key: i64, at: usize, step: usize) -> bool
+    requires { ⌜ (step ≤ 8) × (at + 3 * step < length (now values)) ⌝ }
+    ensures { λ r. ⌜ (r ≡ false → (j : ℕ) → j < 4 → eqZ key (getD (now (values .entry)) (at + j * step) (pos 0)) ≡ false) ⌝ }
+{
+    let first = key == values[at];
+    let second = key == values[at + step];
+    let third = key == values[at + 2 * step];
+    let fourth = key == values[at + 3 * step];
+    first | second | third | fourth
 }
 
 // Makes the row of the left row at `at` and the right row at `other`, if their keys match, after the `made` rows before, and answers

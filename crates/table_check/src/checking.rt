@@ -1,6 +1,6 @@
 // A table part's header, its cells, and the checks of both.
 ghost use mathlib.Core.Path.{_≡_};
-ghost use Prim.Native.Nat.{_+_, _*_, _^_, _<_};
+ghost use Prim.Native.Nat.{_+_, _*_, _^_, _≤_, _<_};
 ghost use lib.ListN.{length};
 ghost use Rattle.input.specs.promises.Checks.{inputSays};
 ghost use Rattle.label_words.specs.WellFormed.{wellFormed};
@@ -30,49 +30,42 @@ fn header_fits(table: &[u8]) -> bool
         & (len == 4 + 12 * cell_count(table) as usize)
 }
 
-// Whether the value at a place is in range.
+// Whether the value at a place is in range. Of a part with just its bytes no place is tested again.
 fn value_fits(table: &[u8], place: usize) -> bool
+    requires { ⌜ place + 8 ≤ length (now table) ⌝ }
     ensures { λ r. ⌜ r ≡ inRange (signedOf (numberAt (now (table .entry)) place 8)) ⌝ }
 {
-    value::range::in_range(value::pattern::signed(eight(table, place)))
+    let field = &table[place..place + 8];
+    value::range::in_range(value::pattern::signed(eight(field, 0)))
 }
 
 // Whether the label at a place is well-formed.
 fn label_fits(table: &[u8], place: usize) -> bool
+    requires { ⌜ place + 4 ≤ length (now table) ⌝ }
     ensures { λ r. ⌜ r ≡ wellFormed (numberAt (now (table .entry)) place 4) ⌝ }
 {
-    label::well_formed(four(table, place))
+    let field = &table[place..place + 4];
+    label::well_formed(four(field, 0))
 }
 
-// 14 and 15: the first cell, row by row and left to right, whose value or label is wrong. The part begins at `at`.
-fn check_cells(table: &[u8], at: usize, rows: usize, columns: usize) -> InputCheck
-    requires { ⌜ (at + length (now table) < 2 ^ 64) × (length (now table) ≡ 4 + 12 * (rows * columns)) ⌝ }
-    ensures { λ r. ⌜ inputSays r ≡ checkCells (now (table .entry)) at 0 (rows * columns) ⌝ }
+// 14 and 15: the first of so many cells whose value or label is wrong. The part begins at `at`.
+fn check_cells(table: &[u8], at: usize, count: usize) -> InputCheck
+    requires { ⌜ (at + length (now table) < 2 ^ 64) × (length (now table) ≡ 4 + 12 * count) ⌝ }
+    ensures { λ r. ⌜ inputSays r ≡ checkCells (now (table .entry)) at 0 count ⌝ }
 {
-    let mut found = InputCheck::Accepted;
     let mut cell = 0;
-    let mut row = 0;
-    'rows: while row < rows {
-        let mut column = 0;
-        while column < columns {
-            let value_place = 4 + 12 * cell;
-            if !value_fits(table, value_place) {
-                let place = at + value_place;
-                found = InputCheck::Refused(InputRefusal::Value(place));
-                break 'rows;
-            }
-            let label_place = value_place + 8;
-            if !label_fits(table, label_place) {
-                let place = at + label_place;
-                found = InputCheck::Refused(InputRefusal::Label(place));
-                break 'rows;
-            }
-            cell += 1;
-            column += 1;
+    while cell < count {
+        let value_place = 4 + 12 * cell;
+        if !value_fits(table, value_place) {
+            return InputCheck::Refused(InputRefusal::Value(at + value_place));
         }
-        row += 1;
+        let label_place = value_place + 8;
+        if !label_fits(table, label_place) {
+            return InputCheck::Refused(InputRefusal::Label(at + label_place));
+        }
+        cell += 1;
     }
-    found
+    InputCheck::Accepted
 }
 
 // 13, 14, 15 and 20 of a table part that begins at `at`.
@@ -83,8 +76,7 @@ pub fn check_table(table: &[u8], at: u32) -> InputCheck
     if !header_fits(table) {
         return InputCheck::Refused(InputRefusal::Table(place));
     }
-    let shape = shape_of(table);
-    let found = check_cells(table, place, shape.rows, shape.columns);
+    let found = check_cells(table, place, cell_count(table) as usize);
     let InputCheck::Accepted = found else {
         return found;
     };

@@ -12,11 +12,22 @@ use little_endian::four;
 use table_part::cell_count;
 use table_part::shape_of;
 
-// The value at a place.
+// The value at a place. Of a part with just its bytes no place is tested again.
 fn value_at(table: &[u8], place: usize) -> i64
+    requires { ⌜ place + 8 ≤ length (now table) ⌝ }
     ensures { λ r. ⌜ r ≡ signedOf (numberAt (now (table .entry)) place 8) ⌝ }
 {
-    value::pattern::signed(eight(table, place))
+    let field = &table[place..place + 8];
+    value::pattern::signed(eight(field, 0))
+}
+
+// The label at a place.
+fn label_at(table: &[u8], place: usize) -> u32
+    requires { ⌜ place + 4 ≤ length (now table) ⌝ }
+    ensures { λ r. ⌜ r ≡ numberAt (now (table .entry)) place 4 ⌝ }
+{
+    let field = &table[place..place + 4];
+    four(field, 0)
 }
 
 // Whether a slice of so many elements has room for `count` of them from a place on.
@@ -37,7 +48,7 @@ fn copy_cells(table: &[u8], values: &mut [i64], labels: &mut [u32], at: usize, c
         let place = 4 + 12 * cell;
         let to = at + cell;
         values[to] = value_at(table, place);
-        labels[to] = four(table, place + 8);
+        labels[to] = label_at(table, place + 8);
         cell += 1;
     }
 }

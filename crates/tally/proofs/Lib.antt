@@ -1,7 +1,7 @@
--- What the proofs share. `Laws` is for the proofs of other crates to cite.
+-- What the proofs share. `Laws` and `Sums` are for the proofs of other crates to cite.
 mod Filled
 pub mod Laws
 mod Overs
 mod Parts
-mod Sums
+pub mod Sums
 mod Traced

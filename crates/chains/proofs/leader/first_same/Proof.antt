@@ -3,12 +3,14 @@ use Prim.Native.Nat.{ℕ, _+_, _-_, _*_, _≤_, _<_}
 use mathlib.Core.Path.{_≡_, refl, sym, _∙_}
 use mathlib.Core.Bool.{false}
 use mathlib.Core.List.{List}
+use mathlib.Core.Logic.{⊎-elim}
 use native.Mathlib.Nat.{mul-le-mul-right}
 use native.Mathlib.Omega.{arith}
 use lib.ListN.{length, getD, drop}
 use lib.Seq.{take-all}
 use Rattle.cells.specs.promises.Cells.{cellsOf, rowFrom, tableRows}
-use Rattle.plan.specs.Group.{sameKeys}
+use Rattle.chains.specs.promises.Chains.{sameAt}
+use Rattle.chains.proofs.Hashing.{other-hash}
 use Rattle.chains.proofs.Listing.{one-more}
 use Rattle.chains.proofs.Searching.{none-same, leader-first, none-before}
 use Rattle.cells.proofs.Rows.{rows-length}
@@ -16,12 +18,12 @@ use Rattle.chains.proofs.leader.first_same.Statement.{statement}
 use Rattle.chains.proofs.leader.first_same.Tie as tie
 
 abbrev Inv-loop : tie.InvT-loop
-Inv-loop values leads count at columns keys row own index₀ index =
+Inv-loop values leads hashes count at columns keys row hash own index₀ index =
     (index ≤ count) × (own ≡ at + row * columns)
-    × ((labels : List ℕ) → at + (row * columns + columns) ≤ length labels → (i : ℕ) → i < index → sameKeys keys columns (rowFrom columns (cellsOf values labels) (at + getD leads i 0 * columns)) (rowFrom columns (cellsOf values labels) own) ≡ false)
+    × ((labels : List ℕ) → at + (row * columns + columns) ≤ length labels → (i : ℕ) → i < index → sameAt keys columns (cellsOf values labels) (at + getD leads i 0 * columns) own ≡ false)
 
 abbrev μ-loop : tie.MeasureT-loop
-μ-loop values leads count at columns keys row own index₀ index = count - index
+μ-loop values leads hashes count at columns keys row hash own index₀ index = count - index
 
 mul-own : tie.Need-mul-own Inv-loop μ-loop
 mul-own c = omega arith
@@ -32,6 +34,12 @@ add-own c = omega arith
 loop-holds : tie.Need-loop-holds Inv-loop μ-loop
 loop-holds c = (omega arith, refl, λ labels p i h. absurd (omega arith))
 
+mul-if1 : tie.Need-mul-if1 Inv-loop μ-loop
+mul-if1 c = omega arith
+
+element-copy-out-if1 : tie.Need-element-copy-out-if1 Inv-loop μ-loop
+element-copy-out-if1 c = omega arith
+
 mul-other : tie.Need-mul-other Inv-loop μ-loop
 mul-other c = omega arith
 
@@ -39,32 +47,32 @@ element-copy-out-other : tie.Need-element-copy-out-other Inv-loop μ-loop
 element-copy-out-other c = omega arith
 
 -- the row compared stands before
-further : (c : tie.After-other Inv-loop μ-loop) → let a = c .before .before .before .args in getD (a .leads .now) (c .before .before .loop .index) 0 * a .columns + a .columns ≤ a .row * a .columns
+further : (c : tie.In-loop Inv-loop μ-loop) → let a = c .before .before .args in getD (a .leads .now) (c .before .loop .index) 0 * a .columns + a .columns ≤ a .row * a .columns
 further c =
-    let s = c .before .before .before in
-    omega (arith, mul-le-mul-right (s .args .columns) (s .pre .1 .0 .2 (c .before .before .loop .index) (c .before .loop-test .taken)))
+    let s = c .before .before in
+    omega (arith, mul-le-mul-right (s .args .columns) (s .pre .1 .0 .2 (c .before .loop .index) (c .loop-test .taken)))
 
 mul-same-keys : tie.Need-mul-same-keys Inv-loop μ-loop
-mul-same-keys c = omega (arith, further c)
+mul-same-keys c = omega (arith, further (c .before .before .before))
 
 add-same-keys : tie.Need-add-same-keys Inv-loop μ-loop
-add-same-keys c = omega (arith, further c)
+add-same-keys c = omega (arith, further (c .before .before .before))
 
 same-keys-requires : tie.Need-same-keys-requires Inv-loop μ-loop
-same-keys-requires c κs = omega (arith, further c)
+same-keys-requires c κs = omega (arith, further (c .before .before .before))
 
 returns : tie.Need-returns Inv-loop μ-loop
 returns c =
-    let o = c .before .before in
-    let s = o .before .before .before in
+    let o = c .before .before .before .before .before in
+    let s = o .before .before in
     let a = s .args in
-    let l = o .before .before .loop in
-    let h = o .before .loop-test .taken in
+    let i = o .before .loop .index in
+    let h = o .loop-test .taken in
     let f = further o in
     λ labels p.
-    let listed = s .pre .1 .1 labels p in
-    sym (leader-first (a .keys) (a .columns) (a .row) (a .at) _ (cellsOf (a .values .now) labels) (listed .found) (listed .known) _ (s .pre .1 .0 .2 (l .index) h) (listed .lead (l .index) h)
-    (sym (c .before .same-keys .ensures labels (omega arith) (omega arith)) ∙ c .if1 .taken))
+    let listed = s .pre .1 .1 .1 labels p in
+    sym (leader-first (a .keys) (a .columns) (a .row) (a .at) _ (cellsOf (a .values .now) labels) (listed .found) (listed .known) _ (s .pre .1 .0 .2 i h) (listed .lead i h)
+    (sym (c .before .same-keys .ensures labels (omega arith) (omega arith)) ∙ c .if2 .taken))
 
 add-index : tie.Need-add-index Inv-loop μ-loop
 add-index c = omega arith
@@ -72,18 +80,29 @@ add-index c = omega arith
 loop-less : tie.Need-loop-less Inv-loop μ-loop
 loop-less c = omega arith
 
+-- the leader passed has other keys
+passed : (c : tie.Joined1 Inv-loop μ-loop) (labels : List ℕ) → let l = c .before .before .before in let a = l .before .args in
+    a .at + (a .row * a .columns + a .columns) ≤ length labels
+    → sameAt (a .keys) (a .columns) (cellsOf (a .values .now) labels) (a .at + getD (a .leads .now) (l .loop .index) 0 * a .columns) (a .at + a .row * a .columns) ≡ false
+passed c labels p =
+    let o = c .before .before in
+    let s = o .before .before in
+    let a = s .args in
+    let f = further o in
+    ⊎-elim (λ w. sym (w .2 .ensures labels (omega arith) (omega arith)) ∙ w .3 .left)
+    (λ w.
+    other-hash (a .values .now) labels (a .keys) (a .columns) _ _ (omega arith) (omega arith) (omega arith) (omega arith)
+    (λ e. w .left (s .pre .1 .1 .0 .0 .each (o .before .loop .index) (o .loop-test .taken) ∙ e ∙ sym (s .pre .1 .1 .0 .1)))) (c .if1 .came)
+
 loop-again : tie.Need-loop-again Inv-loop μ-loop
 loop-again c =
-    let o = c .before .before in
-    let a = o .before .before .before .args in
-    let l = o .before .before .loop in
-    let f = further o in (
+    let l = c .before .before .before in
+    let a = l .before .args in (
       omega arith,
-      l .inv .1,
+      l .loop .inv .1,
       λ labels p.
-          let M = cellsOf (a .values .now) labels in
-          one-more (λ i. sameKeys (a .keys) (a .columns) (rowFrom (a .columns) M (a .at + getD (a .leads .now) i 0 * a .columns)) (rowFrom (a .columns) M (a .at + a .row * a .columns)) ≡ false) (l .index) (l .inv .2 labels p)
-          (sym (c .before .same-keys .ensures labels (omega arith) (omega arith)) ∙ c .if1 .left),
+          one-more (λ i. sameAt (a .keys) (a .columns) (cellsOf (a .values .now) labels) (a .at + getD (a .leads .now) i 0 * a .columns) (a .at + a .row * a .columns) ≡ false) (l .loop .index)
+          (l .loop .inv .2 labels p) (passed c labels p),
     )
 
 returns-2 : tie.Need-returns-2 Inv-loop μ-loop
@@ -95,7 +114,7 @@ returns-2 c =
     let M = cellsOf (a .values .now) labels in
     let R = tableRows (a .columns) (a .row) M (a .at) in
     let n : length R ≡ a .row = rows-length (a .columns) (a .row) (drop (a .at) M) in
-    let listed = s .pre .1 .1 labels p in
+    let listed = s .pre .1 .1 .1 labels p in
     let none = none-before (a .keys) (a .columns) (a .row) (a .at) (rowFrom (a .columns) M (a .at + a .row * a .columns)) M (listed .found) (listed .known)
     (λ other h e. let w = listed .all other h e in rw (← (w .2)) (l .inv .2 labels p (w .0) (omega (arith, w .1)))) (a .row) (omega arith) in
     sym (none-same (a .keys) (a .columns) _ R (rw (take-all (a .row) R (omega arith)) at none) ∙ n)
@@ -109,6 +128,8 @@ first-same-spec =
     mul-own
     add-own
     loop-holds
+    mul-if1
+    element-copy-out-if1
     mul-other
     element-copy-out-other
     mul-same-keys

@@ -1,50 +1,57 @@
--- `csv_writer::length::digit_count` meets its contract. The loop's invariant: the number has at least that many digits. Assumes nothing.
-use Prim.Native.Nat.{_+_, _-_, _^_, _≤_, _<_}
-use mathlib.Core.Path.{_≡_, refl}
-use native.Mathlib.Numerals.{add-one}
+-- `csv_writer::length::digit_count` meets its contract. Assumes nothing.
+use mathlib.Core.Path.{refl, sym, ap}
 use native.Mathlib.Omega.{arith}
 use lib.ListN.{length}
-use Rattle.csv_text.specs.Text.{digits}
-use Rattle.csv_writer.proofs.Digits.{many, some-digits, at-most, low-power, next-power}
+use borrow.Author.Needs.{needs}
+use Rattle.csv_writer.proofs.Digits.{digits-one, some-digits, few, many}
 use Rattle.csv_writer.proofs.length.digit_count.Statement.{statement}
 use Rattle.csv_writer.proofs.length.digit_count.Tie as tie
 
-abbrev Inv-loop : tie.InvT-loop
-Inv-loop n count₀ limit₀ count limit = (1 ≤ count) × (count ≤ length (digits n)) × (limit ≡ 10 ^ count)
+returns : tie.Need-returns
+returns c = sym (ap length (digits-one _ (c .if1 .taken)))
 
-abbrev μ-loop : tie.MeasureT-loop
-μ-loop n count₀ limit₀ count limit = length (digits n) - count
+count-from-requires : tie.Need-count-from-requires
+count-from-requires c κs = (omega arith, refl, some-digits _, few 3 _ (c .if2 .taken))
 
--- a limit that is not above the number
-below : (c : tie.In-loop Inv-loop μ-loop) → c .before .loop .count < 19
-below c =
-    let l = c .before .loop in
-    low-power (l .count) (c .before .before .args .n) (rw (← (l .inv .2)) (c .loop-test .taken)) (c .before .before .pre)
+returns-2 : tie.Need-returns-2
+returns-2 c = search needs
 
-grown : (c : tie.In-loop Inv-loop μ-loop) → c .before .loop .count + 1 ≤ length (digits (c .before .before .args .n))
-grown c =
-    let l = c .before .loop in
-    omega (arith, many (l .count) (c .before .before .args .n) (rw (← (l .inv .2)) (c .loop-test .taken)))
+count-from-requires-2 : tie.Need-count-from-requires-2
+count-from-requires-2 c κs = (omega arith, refl, many 4 _ (c .before .if2 .left), few 7 _ (c .if3 .taken))
 
-loop-holds : tie.Need-loop-holds Inv-loop μ-loop
-loop-holds c = (omega arith, some-digits _, refl)
+returns-3 : tie.Need-returns-3
+returns-3 c = search needs
 
-mul-limit : tie.Need-mul-limit Inv-loop μ-loop
-mul-limit c = record { fits = rw (c .before .loop .inv .2) (next-power (c .before .loop .count) (below c)) }
+count-from-requires-3 : tie.Need-count-from-requires-3
+count-from-requires-3 c κs = (omega arith, refl, many 8 _ (c .before .if3 .left), few 11 _ (c .if4 .taken))
 
-add-count : tie.Need-add-count Inv-loop μ-loop
-add-count c = omega (arith, below c)
+returns-4 : tie.Need-returns-4
+returns-4 c = search needs
 
-loop-less : tie.Need-loop-less Inv-loop μ-loop
-loop-less c = omega (arith, grown c)
+count-from-requires-4 : tie.Need-count-from-requires-4
+count-from-requires-4 c κs = (omega arith, refl, many 12 _ (c .before .if4 .left), few 15 _ (c .if5 .taken))
 
-loop-again : tie.Need-loop-again Inv-loop μ-loop
-loop-again c = (omega arith, grown c, rw (c .before .loop .inv .2, add-one (c .before .loop .count)) (omega arith))
+returns-5 : tie.Need-returns-5
+returns-5 c = search needs
 
-returns : tie.Need-returns Inv-loop μ-loop
-returns c =
-    let l = c .before .loop in
-    omega (arith, at-most (l .count) (c .before .before .args .n) (l .inv .0) (rw (← (l .inv .2)) (c .loop-test .left)))
+count-from-requires-5 : tie.Need-count-from-requires-5
+count-from-requires-5 c κs = (omega arith, refl, many 16 _ (c .if5 .left), few 19 _ (omega arith))
+
+returns-6 : tie.Need-returns-6
+returns-6 c = search needs
 
 pub digit-count-spec : {M : Type 1} → statement M
-digit-count-spec = tie.close (tie.spec Inv-loop μ-loop loop-holds mul-limit add-count loop-less loop-again returns)
+digit-count-spec =
+    tie.close
+    (tie.spec
+    returns
+    count-from-requires
+    returns-2
+    count-from-requires-2
+    returns-3
+    count-from-requires-3
+    returns-4
+    count-from-requires-4
+    returns-5
+    count-from-requires-5
+    returns-6)

@@ -1,12 +1,13 @@
 -- `csv_writer::write::put_rows` meets its contract. Assumes nothing.
 use Prim.Native.Nat.{ℕ, _+_, _-_, _≤_}
+use mathlib.Core.Path.{refl}
 use mathlib.Core.List.{List, _++_}
 use native.Mathlib.Omega.{arith}
 use lib.IntN.{ℤ, pos}
 use lib.ListN.{getD, take, drop}
 use denote.Ref.{now}
 use Rattle.csv_text.specs.Text.{decimal}
-use Rattle.csv_writer.specs.promises.Cells.{separator, nextLeft, spelled}
+use Rattle.csv_writer.specs.promises.Cells.{digitPairs, separator, nextLeft, spelled}
 use Rattle.csv_writer.proofs.Cells.{next-value, none-left, left-stays}
 use Rattle.csv_writer.proofs.Writing.{Sofar, sofar-begins, sofar-room, sofar-next, sofar-long, sofar-ends}
 use Rattle.value.proofs.Machine.{back, back-is}
@@ -14,11 +15,11 @@ use Rattle.csv_writer.proofs.write.put_rows.Statement.{statement}
 use Rattle.csv_writer.proofs.write.put_rows.Tie as tie
 
 abbrev Inv-loop : tie.InvT-loop
-Inv-loop text₀ at values count columns to₀ left₀ i₀ text to left i =
+Inv-loop text₀ at values count columns to₀ left₀ i₀ pairs text to left i =
     (i ≤ count) × (1 ≤ left) × Sofar (spelled columns columns (take count values)) text₀ at text to (spelled columns left (drop i (take count values)))
 
 abbrev μ-loop : tie.MeasureT-loop
-μ-loop text₀ at values count columns to₀ left₀ i₀ text to left i = count - i
+μ-loop text₀ at values count columns to₀ left₀ i₀ pairs text to left i = count - i
 
 -- the whole text of the rows, and in the loop the next value, and what comes after its separator
 abbrev whole : tie.At-loop Inv-loop μ-loop → List ℕ
@@ -42,11 +43,11 @@ value-next c =
     (rw (next-value (a .columns) (l .loop .left) (a .values .now) (a .count) (l .loop .i) (c .before .before .loop-test .taken) (l .before .before .pre .1)) at (l .loop .inv .2))
 
 separator-next : (c : tie.After-put-value Inv-loop μ-loop)
-    → let l = c .before .before .before .before in
+    → let l = c .before .before .before .before .before in
     Sofar (whole l) (now (l .before .before .args .text)) (l .before .before .args .at) (c .put-value .last .0) (c .put-value .result) (separator (l .loop .left) ++ rest l)
 separator-next c =
-    let l = c .before .before .before .before in
-    sofar-next (decimal (value l)) (separator (l .loop .left) ++ rest l) (value-next (c .before)) (c .put-value .ensures .0) (c .put-value .ensures .1)
+    let l = c .before .before .before .before .before in
+    sofar-next (decimal (value l)) (separator (l .loop .left) ++ rest l) (value-next (c .before .before)) (c .put-value .ensures .0) (c .put-value .ensures .1)
 
 loop-holds : tie.Need-loop-holds Inv-loop μ-loop
 loop-holds c =
@@ -61,18 +62,19 @@ shared-slice-copy-out-put-value : tie.Need-shared-slice-copy-out-put-value Inv-l
 shared-slice-copy-out-put-value c = omega arith
 
 put-value-requires : tie.Need-put-value-requires Inv-loop μ-loop
+unfolding digitPairs
 put-value-requires c κs =
-    let l = c .before .before .before in
-    sofar-room (decimal (value l)) (separator (l .loop .left) ++ rest l) (value-next c) (l .before .before .pre .2)
+    let l = c .before .before .before .before in
+    (sofar-room (decimal (value l)) (separator (l .loop .left) ++ rest l) (value-next (c .before)) (l .before .before .pre .2), refl)
 
 put-separator-requires : tie.Need-put-separator-requires Inv-loop μ-loop
 put-separator-requires c κs =
     let v = c .before .before .before in
-    let l = v .before .before .before .before in
+    let l = v .before .before .before .before .before in
     sofar-room (separator (l .loop .left)) (rest l) (separator-next v) (l .before .before .pre .2)
 
 next-left-requires : tie.Need-next-left-requires Inv-loop μ-loop
-next-left-requires c κs = c .before .before .before .before .before .before .before .before .before .before .loop .inv .1
+next-left-requires c κs = c .before .before .before .before .before .before .before .before .before .before .before .loop .inv .1
 
 add-i : tie.Need-add-i Inv-loop μ-loop
 add-i c = omega arith
@@ -84,7 +86,7 @@ loop-again : tie.Need-loop-again Inv-loop μ-loop
 loop-again c =
     let p = c .before .before .before in
     let v = p .before .before .before .before in
-    let l = v .before .before .before .before in
+    let l = v .before .before .before .before .before in
     let b = l .before .before in (
       omega arith,
       rw (c .next-left .ensures) (left-stays (b .args .columns) (l .loop .left) (b .pre .0) (l .loop .inv .1)),

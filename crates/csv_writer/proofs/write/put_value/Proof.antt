@@ -38,7 +38,7 @@ negative-requires : tie.Need-negative-requires
 negative-requires c κs = search needs
 
 slice-write-text : tie.Need-slice-write-text
-slice-write-text c = omega (arith, c .before .before .before .before .before .pre, ap length (minus c))
+slice-write-text c = omega (arith, c .before .before .before .before .before .pre .0, ap length (minus c))
 
 add-put-digits : tie.Need-add-put-digits
 add-put-digits c = search needs
@@ -46,7 +46,7 @@ add-put-digits c = search needs
 put-digits-requires : tie.Need-put-digits-requires
 put-digits-requires c κs =
     let d = c .before .before .before in
-    (d .digit-count .ensures, rw length-set (omega (arith, d .before .before .before .pre, ap length (minus (c .before)), d .digit-count .ensures)))
+    (d .digit-count .ensures, rw length-set (omega (arith, d .before .before .before .pre .0, ap length (minus (c .before)), d .digit-count .ensures)), d .before .before .before .pre .1)
 
 add-result : tie.Need-add-result
 add-result c = search needs
@@ -55,7 +55,7 @@ add-result-2 : tie.Need-add-result-2
 add-result-2 c =
     let t = c .before .before .before .before in
     let d = t .before .before in
-    omega (arith, d .before .before .before .pre, ap length (minus t), d .digit-count .ensures)
+    omega (arith, d .before .before .before .pre .0, ap length (minus t), d .digit-count .ensures)
 
 same-length : tie.Need-same-length
 same-length c = as-long (c .before .before .put-digits .ensures) ∙ simp length-set
@@ -72,7 +72,7 @@ returns c =
 put-digits-requires-2 : tie.Need-put-digits-requires-2
 put-digits-requires-2 c κs =
     let d = c .before .before .before in
-    (d .digit-count .ensures, omega (arith, d .before .before .before .pre, ap length (plain (c .before)), d .digit-count .ensures))
+    (d .digit-count .ensures, omega (arith, d .before .before .before .pre .0, ap length (plain (c .before)), d .digit-count .ensures), d .before .before .before .pre .1)
 
 add-result-3 : tie.Need-add-result-3
 add-result-3 c = search needs

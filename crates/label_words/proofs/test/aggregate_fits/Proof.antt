@@ -1,6 +1,6 @@
 -- `label_words::test::aggregate_fits` meets its contract. Assumes nothing.
 use borrow.Author.Needs.{needs}
-use Rattle.label_words.specs.WellFormed.{minimumFits}
+use Rattle.label_words.proofs.Masks.{aggregate-by-mask}
 use Rattle.label_words.proofs.test.aggregate_fits.Statement.{statement}
 use Rattle.label_words.proofs.test.aggregate_fits.Tie as tie
 
@@ -10,26 +10,8 @@ bit-requires c κs = search needs
 field-requires : tie.Need-field-requires
 field-requires c κs = search needs
 
-bit-requires-2 : tie.Need-bit-requires-2
-bit-requires-2 c κs = search needs
-
-field-requires-2 : tie.Need-field-requires-2
-field-requires-2 c κs = search needs
-
-within-requires : tie.Need-within-requires
-within-requires c κs = search needs
-
 returns : tie.Need-returns
-unfolding minimumFits
-returns c = rw (c .within .ensures, c .before .field2 .ensures, c .before .before .bit2 .ensures, c .before .before .before .field .ensures, c .before .before .before .before .bit .ensures)
+returns c = rw (c .field .ensures, c .before .bit .ensures) (aggregate-by-mask (c .before .before .args .word))
 
 pub aggregate-fits-spec : {M : Type 1} → statement M
-aggregate-fits-spec =
-    tie.close
-    (tie.spec
-    bit-requires
-    field-requires
-    bit-requires-2
-    field-requires-2
-    within-requires
-    returns)
+aggregate-fits-spec = tie.close (tie.spec bit-requires field-requires returns)

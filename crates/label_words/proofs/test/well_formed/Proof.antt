@@ -2,14 +2,9 @@
 use borrow.Author.Needs.{needs}
 use borrow.Author.Tests.{lt-ltb}
 use Rattle.label_words.specs.WellFormed.{wellFormed}
+use Rattle.label_words.proofs.Masks.{reserved-by-mask}
 use Rattle.label_words.proofs.test.well_formed.Statement.{statement}
 use Rattle.label_words.proofs.test.well_formed.Tie as tie
-
-field-requires : tie.Need-field-requires
-field-requires c κs = search needs
-
-field-requires-2 : tie.Need-field-requires-2
-field-requires-2 c κs = search needs
 
 transform-fits-requires : tie.Need-transform-fits-requires
 transform-fits-requires c κs = search needs
@@ -22,15 +17,9 @@ noise-fits-requires c κs = search needs
 
 returns : tie.Need-returns
 unfolding wellFormed
-returns c = rw (lt-ltb _ _ (c .before .before .before .before .before .fits .word .fits), c .noise-fits .ensures, c .before .aggregate-fits .ensures, c .before .before .transform-fits .ensures, c .before .before .before .field2 .ensures, c .before .before .before .before .field .ensures)
+returns c =
+    let w = c .before .before .before in
+    rw (lt-ltb _ _ (w .fits .word .fits), c .noise-fits .ensures, c .before .aggregate-fits .ensures, c .before .before .transform-fits .ensures, reserved-by-mask (w .args .word))
 
 pub well-formed-spec : {M : Type 1} → statement M
-well-formed-spec =
-    tie.close
-    (tie.spec
-    field-requires
-    field-requires-2
-    transform-fits-requires
-    aggregate-fits-requires
-    noise-fits-requires
-    returns)
+well-formed-spec = tie.close (tie.spec transform-fits-requires aggregate-fits-requires noise-fits-requires returns)

@@ -9,7 +9,6 @@ use borrow.Author.Needs.{needs}
 use borrow.Author.Tests.{not-true, not-false}
 use Rattle.table_check.specs.Checks.{checkCells, checkTable}
 use Rattle.table_part.specs.TablePart.{cellCount, headerFits}
-use Rattle.table_part.specs.promises.Shape.{shapeOf}
 use Rattle.input.specs.promises.Checks.{inputSays}
 use Rattle.input.proofs.Laws.{stands, passes}
 use Rattle.table_check.proofs.Header.{header}
@@ -24,14 +23,16 @@ returns : tie.Need-returns
 unfolding checkTable
 returns c = let t : headerFits (now (c .before .before .before .args .table)) ≡ false = sym (c .before .header-fits .ensures) ∙ not-true _ (c .if1 .taken) in rw t
 
-shape-of-requires : tie.Need-shape-of-requires
-shape-of-requires c κs = search needs
+cell-count-requires : tie.Need-cell-count-requires
+cell-count-requires c κs = search needs
+
+cast-check-cells : tie.Need-cast-check-cells
+cast-check-cells c = search needs
 
 check-cells-requires : tie.Need-check-cells-requires
-unfolding shapeOf
 check-cells-requires c κs =
     let h = header _ (sym (c .before .before .header-fits .ensures) ∙ not-false _ (c .before .if1 .left)) in
-    rw (c .shape-of .ensures) (omega (arith, h .whole, mul-le-mul (h .small) (h .few)), h .whole)
+    rw (c .cell-count .ensures) (omega (arith, h .whole, mul-le-mul (h .small) (h .few)), h .whole)
 
 enum-told : tie.Need-enum-told
 enum-told c = search needs
@@ -47,8 +48,7 @@ headed : (c : tie.After-check-cells) → headerFits (part c) ≡ true
 headed c = sym (c .before .before .before .header-fits .ensures) ∙ not-false _ (c .before .before .if1 .left)
 
 cells : (c : tie.After-check-cells) → inputSays (c .check-cells .result) ≡ checkCells (part c) (c .before .before .before .before .before .args .at) 0 (cellCount (part c))
-unfolding shapeOf
-cells c = rw (c .before .shape-of .ensures) at (c .check-cells .ensures)
+cells c = rw (c .before .cell-count .ensures) at (c .check-cells .ensures)
 
 returns-2 : tie.Need-returns-2
 unfolding checkTable
@@ -79,7 +79,8 @@ check-table-spec =
     (tie.spec
     header-fits-requires
     returns
-    shape-of-requires
+    cell-count-requires
+    cast-check-cells
     check-cells-requires
     enum-told
     enum-told-2

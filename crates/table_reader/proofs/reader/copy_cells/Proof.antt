@@ -61,11 +61,11 @@ mul-t10 c = search needs
 slice-set-from-values : tie.Need-slice-set-from-values Inv-loop μ-loop
 slice-set-from-values c = omega (arith, long-values (c .before .before))
 
-add-four : tie.Need-add-four Inv-loop μ-loop
-add-four c = search needs
+add-label-at : tie.Need-add-label-at Inv-loop μ-loop
+add-label-at c = search needs
 
-four-requires : tie.Need-four-requires Inv-loop μ-loop
-four-requires c κs = search needs
+label-at-requires : tie.Need-label-at-requires Inv-loop μ-loop
+label-at-requires c κs = search needs
 
 mul-labels : tie.Need-mul-labels Inv-loop μ-loop
 mul-labels c = search needs
@@ -89,7 +89,7 @@ loop-again c =
     let v = c .before .value-at in (
       omega arith,
       copy-more (λ cell. cell .value) (now (a .table)) (a .count) (now (a .values)) _ (a .at) k _ (p .1) h (i .1) (back-is (v .result) (v .ok) ∙ v .ensures),
-      copy-more (λ cell. cell .label) (now (a .table)) (a .count) (now (a .labels)) _ (a .at) k _ (p .2) h (i .2) (c .four .ensures),
+      copy-more (λ cell. cell .label) (now (a .table)) (a .count) (now (a .labels)) _ (a .at) k _ (p .2) h (i .2) (c .label-at .ensures),
     )
 
 same-length : tie.Need-same-length Inv-loop μ-loop
@@ -121,8 +121,8 @@ copy-cells-spec =
     value-at-requires
     mul-t10
     slice-set-from-values
-    add-four
-    four-requires
+    add-label-at
+    label-at-requires
     mul-labels
     slice-write-labels
     add-cell

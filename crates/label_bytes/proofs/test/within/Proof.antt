@@ -1,6 +1,6 @@
--- `label_words::test::within` meets its contract. Assumes nothing.
-use Rattle.label_words.proofs.test.within.Statement.{statement}
-use Rattle.label_words.proofs.test.within.Tie as tie
+-- `label_bytes::test::within` meets its contract. Assumes nothing.
+use Rattle.label_bytes.proofs.test.within.Statement.{statement}
+use Rattle.label_bytes.proofs.test.within.Tie as tie
 
 returns : tie.Need-returns
 returns c = rw (c .if1 .taken)

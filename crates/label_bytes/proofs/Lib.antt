@@ -1,0 +1,4 @@
+-- What the proofs share.
+mod Bytes
+mod Counts
+mod Words
