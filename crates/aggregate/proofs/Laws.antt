@@ -13,7 +13,7 @@ use lib.ListN.{length, length-append}
 use lib.Signed.{mag, leZ, shrZ, _≤ℤ_, natAbs-le, ≤ℤ-refl, leZ-yes}
 use borrow.Author.Tests.{lt-ltb}
 use Rattle.value.specs.Range.{inRange, bothInRange, OVER, settled}
-use Rattle.value.specs.Arithmetic.{floored}
+use Rattle.value.specs.Division.{floored}
 use Rattle.aggregate.specs.Aggregate.{smaller, larger, exactSum, allInRange, hasRoom, accumulated, rounded, average}
 use Rattle.aggregate.specs.Sentences.{Floored}
 use Rattle.value.proofs.Integers.{so, leZ-other, mag-plus, mag-down, mag-natAbs, down-below, down-above}

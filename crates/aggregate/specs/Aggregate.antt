@@ -7,7 +7,7 @@ use lib.Dec.{ltb}
 use lib.IntN.{ℤ, pos, negsuc, _+ℤ_}
 use lib.Signed.{leZ}
 use Rattle.value.specs.Range.{inRange, OVER, settled, ofBoth}
-use Rattle.value.specs.Arithmetic.{floored}
+use Rattle.value.specs.Division.{floored}
 
 -- "sum, min and max are of exact values". A group's min and max are made of these, a pair at a time.
 unfoldable pub smaller : ℤ → ℤ → ℤ

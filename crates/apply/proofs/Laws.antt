@@ -7,7 +7,7 @@ use Rattle.apply.specs.promises.Fits.{applyFits}
 use Rattle.cells.specs.promises.Labelled.{Formed, LabelledRow, Labelled}
 use Rattle.cells.specs.promises.Work.{Memory}
 use Rattle.operations.specs.promises.Operations.{operationFits}
-use Rattle.memory.specs.declared.Stack.{Stack}
+use Rattle.live_tables.specs.declared.Stack.{Stack}
 use Rattle.memory.specs.promises.Stack.{stackIn}
 use Rattle.memory.specs.promises.Steps.{fitsIn}
 use Rattle.plan.specs.Apply.{appliedRow, applied}

@@ -13,8 +13,8 @@ use Rattle.cells.specs.promises.Labelled.{columnFormed}
 use Rattle.cells.specs.promises.Search.{says, unfit}
 use Rattle.cells.specs.promises.Work.{Work, Memory, markRoom}
 use Rattle.operations.specs.promises.Operations.{operationFits}
-use Rattle.memory.specs.declared.LiveTable.{LiveTable}
-use Rattle.memory.specs.declared.Stack.{Stack}
+use Rattle.live_tables.specs.declared.LiveTable.{LiveTable}
+use Rattle.live_tables.specs.declared.Stack.{Stack}
 use Rattle.memory.specs.declared.StepAnswer.{StepAnswer}
 use Rattle.memory.specs.declared.StepAnswer.the-variants.{Made}
 use Rattle.memory.specs.promises.Stack.{Ready, stackIn, widthsTo, withTable, liveTable, rowsIn, markedIn, labelsIn, Inside, RowsAt}

@@ -10,7 +10,7 @@ use Rattle.label_discharge.specs.Discharge.{afterT}
 use Rattle.cells.specs.promises.Cells.{moved, rowFrom}
 use Rattle.cells.specs.promises.Work.{Work, work, cellsIn, room}
 use Rattle.cells.specs.promises.Written.{Put}
-use Rattle.memory.specs.declared.LiveTable.{LiveTable}
+use Rattle.live_tables.specs.declared.LiveTable.{LiveTable}
 use Rattle.memory.specs.promises.Stack.{rowsIn}
 use Rattle.plan.specs.Apply.{transformValue, newCell, appliedRow}
 use Rattle.plan.specs.Operands.{operandValue}
@@ -21,7 +21,7 @@ use Rattle.plan.specs.declared.Operand.{Operand}
 use Rattle.plan.specs.declared.Operand.the-variants.{Constant, Column}
 use Rattle.plan.specs.declared.Transform.{Transform}
 use Rattle.plan.specs.declared.Transform.the-variants.{Add, Sub, Cut, Band}
-use Rattle.value.specs.Arithmetic.{plus, minus, cut, band}
+use Rattle.arithmetic.specs.Arithmetic.{plus, minus, cut, band}
 use Rattle.cells.proofs.CellLaws.{cell}
 use Rattle.cells.proofs.Rows.{bare}
 use Rattle.extension.proofs.Extending.{madeOf}

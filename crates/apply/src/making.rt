@@ -101,12 +101,12 @@ fn new_value(values: &[i64], from: usize, column: usize, transform: Transform) -
     let first = values[from + column];
     match transform {
         Transform::Add(operand) => {
-            value::arithmetic::plus(first, operand::operand_at(values, from, operand))
+            arithmetic::plus(first, operand::operand_at(values, from, operand))
         }
         Transform::Sub(operand) => {
-            value::arithmetic::minus(first, operand::operand_at(values, from, operand))
+            arithmetic::minus(first, operand::operand_at(values, from, operand))
         }
-        Transform::Cut(digits) => value::arithmetic::cut(digits, first),
-        Transform::Band(width) => value::arithmetic::band(width, first),
+        Transform::Cut(digits) => arithmetic::cut(digits, first),
+        Transform::Band(width) => arithmetic::band(width, first),
     }
 }

@@ -7,7 +7,7 @@ use Rattle.input.specs.Answers.{inputTells}
 use Rattle.input.specs.Verdict.{rejected}
 use Rattle.input.specs.declared.InputRefusal.{InputRefusal}
 use Rattle.demands.specs.Answers.{refusedInput, refusedState}
-use Rattle.demands.specs.Calls.{numbersOf, checkNumbersOf}
+use Rattle.call_demands.specs.Calls.{numbersOf, checkNumbersOf}
 use Rattle.memory.specs.Refusals.{refusalTells}
 use Rattle.memory.specs.declared.Refusal.{Refusal}
 use Rattle.input.proofs.Numbers.{input-tells}

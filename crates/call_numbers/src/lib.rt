@@ -5,13 +5,13 @@ ghost use Prim.Native.Nat.{_≤_};
 ghost use lib.ListN.{getD};
 ghost use Rattle.input.specs.Answers.{planTells, inputTells, inputSays};
 ghost use Rattle.memory.specs.Refusals.{refusalTells};
-ghost use Rattle.evaluator.specs.Answers.{runSays};
-ghost use Rattle.demands.specs.Calls.{numbersOf, checkNumbersOf};
-use evaluator::RunAnswer;
+ghost use Rattle.run_answers.specs.Answers.{runSays};
+ghost use Rattle.call_demands.specs.Calls.{numbersOf, checkNumbersOf};
 use input::InputCheck;
 use input::InputRefusal;
 use input::PlanRefusal;
 use memory::Refusal;
+use run_answers::RunAnswer;
 
 // The numbers of a run's answer.
 pub fn run_numbers(answer: RunAnswer) -> [u64; 4]

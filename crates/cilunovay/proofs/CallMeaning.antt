@@ -7,12 +7,12 @@ use lib.ListN.{length, getD, set}
 use Rattle.container.specs.Check.{checkInput}
 use Rattle.input.specs.Verdict.{InputVerdict, accepted, rejected}
 use Rattle.demands.specs.Answers.{Told, released, refusedInput, refusedState}
-use Rattle.demands.specs.Calls.{numbersOf, runCalled, runTold, runCall, checkNumbersOf, checkCalled, checkTold, checkCall}
+use Rattle.call_demands.specs.Calls.{numbersOf, runCalled, runTold, runCall, checkNumbersOf, checkCalled, checkTold, checkCall}
 use Rattle.demands.specs.Given.{Given}
 use Rattle.demands.specs.Lent.{Lent}
 use Rattle.demands.specs.Monitor.{Run, ended, written, monitor}
-use Rattle.demands.proofs.CallProof.{long-call, call-short-keeps-all}
-use Rattle.demands.proofs.CheckProof.{long-check, check-short-keeps-all}
+use Rattle.call_demands.proofs.CallProof.{long-call, call-short-keeps-all}
+use Rattle.call_demands.proofs.CheckProof.{long-check, check-short-keeps-all}
 
 -- ---- numbers stored one by one at the start of a slice
 

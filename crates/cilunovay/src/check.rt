@@ -1,6 +1,6 @@
 // The input checks alone.
 ghost use mathlib.Core.Path.{_≡_};
-ghost use Rattle.demands.specs.Calls.{checkCall, checkCalled};
+ghost use Rattle.call_demands.specs.Calls.{checkCall, checkCalled};
 use call_numbers::check_numbers;
 
 // Checks a container, writes document 01's number and the byte offset after it to the answer's start, and answers the number: 0, and

@@ -2,7 +2,7 @@
 ghost use mathlib.Core.Path.{_≡_};
 ghost use Rattle.demands.specs.Given.{given};
 ghost use Rattle.demands.specs.Lent.{lent};
-ghost use Rattle.demands.specs.Calls.{runCall, runCalled};
+ghost use Rattle.call_demands.specs.Calls.{runCall, runCalled};
 use call_numbers::run_numbers;
 
 // Runs the monitor, writes the number of its answer and the three numbers after it to the answer's start, and answers the number: 0 for a

@@ -5,8 +5,8 @@ use mathlib.Core.List.{List, _++_}
 use native.Mathlib.Omega.{arith}
 use lib.ListN.{length, getD, drop, replicate, length-append, length-drop, length-replicate, getD-replicate, List·getD-append}
 use lib.Seq.{drop-at}
-use Rattle.tally.specs.Zeros.{filled}
-use Rattle.tally.proofs.Laws.{filled-is}
+use Rattle.zeros.specs.Zeros.{filled}
+use Rattle.zeros.proofs.Laws.{filled-is}
 
 module _ {A : Type 0} (count : ℕ) (x : A) (list : List A) where
   pub filled-get : (i : ℕ) (d : A) → i < count → getD (filled count x list) i d ≡ x

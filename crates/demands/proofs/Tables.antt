@@ -24,7 +24,7 @@ use Rattle.plan.specs.Widths.{columnsExist, madeColumns, placed}
 use Rattle.plan.specs.declared.Step.{Step}
 use Rattle.plan.proofs.SenseShape.{each-get, made-shaped, made-small}
 use Rattle.plan.specs.Trace.{flatLines}
-use Rattle.tally.proofs.Laws.{lines-length}
+use Rattle.trace_lines.proofs.Laws.{lines-length}
 use Rattle.demands.specs.Given.{Given, checkGiven, planGiven, prepared, supplyGiven}
 use Rattle.demands.specs.Monitor.{evaluation}
 use Rattle.demands.proofs.Widths.{each-drop, each-weaker, made-columns, placed-after}

@@ -11,7 +11,7 @@ use Rattle.plan.specs.Table.{flat}
 use Rattle.plan.specs.Evaluate.{Outcome, release, refuse, Result, evaluate}
 use Rattle.plan.specs.Trace.{Line, flatLines}
 use Rattle.csv_text.specs.Text.{tableText}
-use Rattle.tally.specs.Zeros.{filled}
+use Rattle.zeros.specs.Zeros.{filled}
 use Rattle.demands.specs.Answers.{Told, released, refusedInput, refusedState}
 use Rattle.demands.specs.Given.{Given, checkGiven, planGiven, supplyGiven}
 use Rattle.demands.specs.Lent.{Lent, enough}

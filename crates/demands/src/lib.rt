@@ -1,3 +1,2 @@
-// What must be believed of the whole monitor, and the theorems about it. There is no code here: specs/ defines a run and the two calls of
-// the library, and states the three demands; proofs/ proves them. That the code does what is defined here is the contract of
-// `evaluator::run`, of `cilunovay_run` and of `cilunovay_check`.
+// What must be believed of the monitor, and the theorems about it. There is no code here: specs/ defines a run and states the three demands;
+// proofs/ proves them. That the code does what is defined here is the contract of `evaluator::run`.

@@ -1,3 +1,4 @@
--- What the proofs share.
-mod RunMeaning
+-- What the proof of `run` needs.
+mod Ends
 mod ReleaseMeaning
+mod RunMeaning

@@ -23,17 +23,19 @@ use Rattle.memory.proofs.Finish.{says-is, never-unfit}
 use Rattle.cells.proofs.Rows.{marked-grid, marked-length}
 use Rattle.memory.proofs.Stacks.{marks-count}
 use Rattle.cells.proofs.Wanted.{search-same}
-use Rattle.tally.specs.promises.Output.{copied}
-use Rattle.tally.specs.promises.Over.{firstOverAt}
-use Rattle.tally.proofs.Laws.{table-fits, table-over, table-values}
-use Rattle.csv_text.specs.Text.{cut, textOf, valueRows, tableText}
-use Rattle.csv_writer.specs.promises.Writing.{isTable, textFrom}
+use Rattle.table_values.specs.promises.Output.{copied}
+use Rattle.table_values.specs.promises.Over.{firstOverAt}
+use Rattle.table_values.proofs.Laws.{table-fits, table-over, table-values}
+use Rattle.csv_text.specs.Text.{cut, textOf, tableText}
+use Rattle.csv_writer.specs.promises.Writing.{textFrom}
 use Rattle.demands.specs.Answers.{Told, released, refusedState}
 use Rattle.release.specs.declared.ReleaseAnswer.{ReleaseAnswer}
+use Rattle.release.specs.declared.ReleaseAnswer.the-variants as answer
 use Rattle.release.specs.promises.Release.{releaseSays, bytesTold, bytesAfter, outputAfter, exportAfter, afterFine, roomReply, releaseReply, Releases}
+use Rattle.run_answers.specs.promises.Releases.{releaseTells}
 use Rattle.walk.specs.promises.Walk.{finish}
-use Rattle.demands.specs.Monitor.{answerOf, rowsOut, textOut, written, withText}
-use Rattle.evaluator.specs.promises.Ends.{Ends}
+use Rattle.demands.specs.Monitor.{rowsOut, written, withText}
+use Rattle.evaluator.proofs.Ends.{Ends}
 
 -- every column is in the mask 255
 all-columns : (c : ℕ) → c < 8 → inMask 255 c ≡ true
@@ -49,7 +51,7 @@ all-columns (suc (suc (suc (suc (suc (suc (suc zero))))))) h = refl
 all-columns (suc (suc (suc (suc (suc (suc (suc (suc c)))))))) h = absurd (omega arith)
 
 -- what a verdict at release makes a run answer
-abbrev pub answerBy : ℕ → ℕ → ℕ → Verdict → ℕ → Told
+abbrev answerBy : ℕ → ℕ → ℕ → Verdict → ℕ → Told
 answerBy rows columns steps fine bytes = released rows columns bytes
 answerBy rows columns steps (refused number row column) bytes = refusedState number steps row column
 
@@ -153,7 +155,7 @@ module _ (w : Work) (allMarks : List ℕ) (rows columns steps : ℕ) (few : rows
         by-verdict fine false e = rw e
         by-verdict (refused number row column) b e = refl
 
-    pub finished : {answer : ReleaseAnswer} {output₁ : List ℤ} {text₁ : List ℕ} (v : Verdict) → releaseSays answer ≡ says v
+    finished : {answer : ReleaseAnswer} {output₁ : List ℤ} {text₁ : List ℕ} (v : Verdict) → releaseSays answer ≡ says v
         → Releases (releaseReply w output text rows columns) (w .values) output text rows columns answer output₁ text₁
         → Ends (withText steps (length text) (finish steps table)) output text (answerBy rows columns steps v (bytesTold answer)) output₁ text₁
     finished {answer} {output₁} {text₁} v e r =
@@ -170,5 +172,15 @@ module _ (w : Work) (allMarks : List ℕ) (rows columns steps : ℕ) (few : rows
         }
         by-verdict (refused number row column) b o t = record { told-is = refl; output-is = o; text-is = t }
 
-    pub always-fits : unfit ≡ releaseReply w output text rows columns → ⊥
+    always-fits : unfit ≡ releaseReply w output text rows columns → ⊥
     always-fits e = never-unfit (e ∙ replies)
+
+    -- so it ends as the evaluation does, or with 51
+    pub release-ends : (answer : ReleaseAnswer) {output₁ : List ℤ} {text₁ : List ℕ}
+        → Releases (releaseReply w output text rows columns) (w .values) output text rows columns answer output₁ text₁
+        → Ends (withText steps (length text) (finish steps table)) output text (releaseTells steps rows columns answer) output₁ text₁
+    release-ends (answer.Released bytes) r = finished fine refl r
+    release-ends (answer.StageLeft row column) r = finished (refused 35 row column) refl r
+    release-ends (answer.Over row column) r = finished (refused 36 row column) refl r
+    release-ends answer.NoRoom r = finished (refused 51 0 0) refl r
+    release-ends answer.DoesNotFit r = absurd (always-fits (r .says-so))

@@ -16,20 +16,23 @@ use Rattle.demands.specs.Answers.{Told, refusedInput, refusedState}
 use Rattle.demands.specs.Given.{Given, checkGiven, planGiven}
 use Rattle.demands.specs.Lent.{Lent, lent, enough}
 use Rattle.demands.specs.Monitor.{evaluation, withText, runOutcome, ended, monitor}
-use Rattle.evaluator.specs.promises.Ends.{Ends}
+use Rattle.evaluator.proofs.Ends.{Ends}
 use Rattle.memory.specs.Refusals.{refusalTells}
 use Rattle.memory.specs.declared.Refusal.{Refusal}
-use Rattle.memory.specs.promises.Stack.{tableIn}
 use Rattle.plan.specs.Evaluate.{refuse}
-use Rattle.tally.specs.Zeros.{filled}
-use Rattle.tally.specs.promises.Zeros.{Cleared}
+use Rattle.release.specs.declared.ReleaseAnswer.{ReleaseAnswer}
+use Rattle.release.specs.promises.Release.{releaseReply, Releases}
+use Rattle.run_answers.specs.promises.Releases.{releaseTells}
+use Rattle.zeros.specs.Zeros.{filled}
+use Rattle.zeros.specs.promises.Zeros.{Cleared}
 use Rattle.walk.specs.declared.WalkAnswer.the-variants.{Refused, Finished}
-use Rattle.walk.specs.promises.Walk.{roomIn, finish, Stepped, Walked}
+use Rattle.walk.specs.promises.Walk.{roomIn, Stepped, Walked}
 use Rattle.input.proofs.Numbers.{input-tells}
 use Rattle.demands.proofs.Columns.{top-some}
 use Rattle.demands.proofs.Runs.{short-keeps-all as short-run, input-run, begun-run}
 use Rattle.memory.proofs.Finish.{verdicts}
-use Rattle.tally.proofs.Laws.{filled-is}
+use Rattle.zeros.proofs.Laws.{filled-is}
+use Rattle.evaluator.proofs.ReleaseMeaning.{release-ends}
 
 swap : (a b c : Bool) → (a && b) && c ≡ (a && c) && b
 swap true true true = refl
@@ -89,11 +92,11 @@ module _ (given : Given) (w : Memory) (o : List ℤ) (t x : List ℕ) where
         }
 
     -- the table that is left has a column
-    pub some-columns : {steps rows columns : ℕ} → Walked given w t (Finished steps rows columns) w₁ t₁ → 1 ≤ columns
+    some-columns : {steps rows columns : ℕ} → Walked given w t (Finished steps rows columns) w₁ t₁ → 1 ≤ columns
     some-columns s = rw (s .1 .table-is) at (top-some given (s .0 .accepted-is))
 
     -- what a walk needs is still there
-    pub still-long : Stepped given w t w₁ t₁ → (room ≤ length (w₁ .work .values)) × (room ≤ length (w₁ .work .labels)) × (markRoom ≤ length (w₁ .marks))
+    still-long : Stepped given w t w₁ t₁ → (room ≤ length (w₁ .work .values)) × (room ≤ length (w₁ .work .labels)) × (markRoom ≤ length (w₁ .marks))
     still-long s =
         let two = leb room (length (w .work .values)) && leb room (length (w .work .labels)) in
         let a = and-eq-true-iff (two && leb markRoom (length (w .marks))) (leb 256 (length t)) .0 (s .long) in
@@ -104,10 +107,16 @@ module _ (given : Given) (w : Memory) (o : List ℤ) (t x : List ℕ) where
           omega (arith, leb-true markRoom (length (w .marks)) (m .1), s .kept .marks .as-many),
         )
 
-    pub steps-finished : (steps rows columns : ℕ) {told : Told} {o₁ : List ℤ} {x₁ : List ℕ} → Walked given w t (Finished steps rows columns) w₁ t₁
-        → ((marks : List ℕ) → markRoom ≤ length marks → Ends (withText steps (length x) (finish steps (tableIn (record { work = w₁ .work; marks = marks }) 0 columns rows))) o x told o₁ x₁)
+    -- the release of the table that is left
+    pub steps-released : (steps rows columns : ℕ) {told : Told} {answer : ReleaseAnswer} {o₁ : List ℤ} {x₁ : List ℕ} → Walked given w t (Finished steps rows columns) w₁ t₁
+        → Releases (releaseReply (w₁ .work) o x rows columns) (w₁ .work .values) o x rows columns answer o₁ x₁ → told ≡ releaseTells steps rows columns answer
         → Evaluated given w o t x told w₁ o₁ t₁ x₁
-    steps-finished steps rows columns s e = record { stepped = s .0; ends = rw (← s .1 .all-taken, s .1 .outcome) (e (w₁ .marks) (still-long (s .0) .2)) }
+    steps-released steps rows columns {answer = answer} s r e =
+        let n = still-long (s .0) in
+        record {
+          stepped = s .0;
+          ends = rw (← s .1 .all-taken, s .1 .outcome, e) (release-ends (w₁ .work) (w₁ .marks) rows columns steps (s .1 .few-rows) (s .1 .few-columns) (n .0) (n .1) (n .2) (some-columns s) o long x answer r);
+        }
 
     -- the evaluation, and then zeros
     pub run-begun : {told : Told} {o₁ : List ℤ} {x₁ : List ℕ} {w₂ : Memory} {cleared : Bool} → Evaluated given w o t x told w₁ o₁ t₁ x₁

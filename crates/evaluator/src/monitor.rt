@@ -1,18 +1,10 @@
 // A run of the monitor.
 ghost use mathlib.Core.Path.{_≡_};
-ghost use mathlib.Core.List.{List};
-ghost use Prim.Native.Nat.{ℕ, _≤_};
-ghost use lib.ListN.{length};
-ghost use Rattle.cells.specs.promises.Work.{memoryOf, room, markRoom};
 ghost use Rattle.demands.specs.Given.{given};
 ghost use Rattle.demands.specs.Lent.{lent};
-ghost use Rattle.demands.specs.Monitor.{withText, ended, monitor};
-ghost use Rattle.evaluator.specs.Answers.{runSays};
-ghost use Rattle.evaluator.specs.promises.Ends.{Ends};
-ghost use Rattle.memory.specs.promises.Stack.{tableIn};
-ghost use Rattle.walk.specs.promises.Walk.{finish};
-use super::RunAnswer;
-use release::ReleaseAnswer;
+ghost use Rattle.demands.specs.Monitor.{ended, monitor};
+ghost use Rattle.run_answers.specs.Answers.{runSays};
+use run_answers::RunAnswer;
 use walk::WalkAnswer;
 
 // Evaluates a container's plan over the lent work slices, with draws for its NOISE steps. A release writes its rows to the output's start
@@ -47,42 +39,10 @@ pub fn run(
         }
         WalkAnswer::Refused(step, refusal) => RunAnswer::Step(step, refusal),
         WalkAnswer::Finished(steps, rows, columns) => {
-            released(values, labels, output, text, steps, rows, columns)
+            let told = release::release(values, labels, output, text, rows, columns);
+            run_answers::of_release(told, steps, rows, columns)
         }
     };
-    tally::clear_memory(values, labels, marks);
+    zeros::clear_memory(values, labels, marks);
     answer
-}
-
-// The release of the table of so many rows and columns that so many steps leave at the start of work memory, as the run's answer.
-fn released(
-    values: &[i64],
-    labels: &[u32],
-    output: &mut [i64],
-    text: &mut [u8],
-    steps: usize,
-    rows: usize,
-    columns: usize,
-) -> RunAnswer
-    requires { ⌜ (rows ≤ 256) × (1 ≤ columns) × (columns ≤ 8) × (room ≤ length (now values)) × (room ≤ length (now labels))
-        × (2048 ≤ length (now output)) ⌝ }
-    ensures { λ r. ⌜ ((marks : List ℕ) → markRoom ≤ length marks → Ends (withText steps (length (now (text .entry)))
-        (finish steps (tableIn (memoryOf (now (values .entry)) (now (labels .entry)) marks) 0 columns rows)))
-        (now (output .entry)) (now (text .entry)) (runSays r) (now (output .exit)) (now (text .exit))) ⌝ }
-{
-    match release::release(values, labels, output, text, rows, columns) {
-        ReleaseAnswer::Released(bytes) => RunAnswer::Released(rows, columns, bytes),
-        ReleaseAnswer::StageLeft(row, column) => RunAnswer::StageLeft(steps, row, column),
-        ReleaseAnswer::Over(row, column) => RunAnswer::Over(steps, row, column),
-        ReleaseAnswer::NoRoom => RunAnswer::NoRoom(steps),
-        ReleaseAnswer::DoesNotFit => never(),
-    }
-}
-
-// Stands where a case is left that does not occur: no call of it can be proved, but where what is known there is a contradiction.
-fn never() -> RunAnswer
-    requires { ⌜ ⊥ ⌝ }
-    ensures { λ r. ⌜ ⊥ ⌝ }
-{
-    RunAnswer::TooShort
 }

@@ -5,8 +5,8 @@ use mathlib.Core.Bool.{Bool, true}
 use mathlib.Core.List.{List, map}
 use lib.ListN.{length, drop}
 use Rattle.cells.specs.promises.Work.{Work, Memory, cellsIn, markRoom}
-use Rattle.memory.specs.declared.LiveTable.{LiveTable}
-use Rattle.memory.specs.declared.Stack.{Stack}
+use Rattle.live_tables.specs.declared.LiveTable.{LiveTable}
+use Rattle.live_tables.specs.declared.Stack.{Stack}
 use Rattle.memory.specs.declared.StepAnswer.the-variants.{Made}
 use Rattle.memory.specs.promises.Stack.{Ready, markPart, stackIn, withTable, rowsIn, markedIn, Inside, RowsAt}
 use Rattle.memory.specs.promises.Steps.{verdict, DoneWhere}

@@ -14,7 +14,7 @@ use Rattle.cells.specs.promises.Cells.{bareRows, Wide, rowFrom}
 use Rattle.cells.specs.promises.Labelled.{columnFormed}
 use Rattle.cells.specs.promises.Work.{Work, cellsIn, room, Kept}
 use Rattle.cells.specs.promises.Written.{Written, CellsWritten, Put}
-use Rattle.memory.specs.declared.LiveTable.{LiveTable}
+use Rattle.live_tables.specs.declared.LiveTable.{LiveTable}
 use Rattle.memory.specs.promises.Stack.{lastSlot, rowsIn, labelsIn, Inside, RowsAt}
 use Rattle.plan.specs.Table.{Each, Cell, Row, blank, flat}
 use Rattle.cells.proofs.CellLaws.{movedIn, cells-get, kept-none, kept-then}

@@ -11,7 +11,7 @@ use lib.ListN.{length, getD, take, drop, set, length-append, length-drop, length
 use lib.Seq.{take-suc, getD-drop}
 use Rattle.cells.specs.promises.Work.{Memory, cellsIn, room, markRoom, Kept}
 use Rattle.cells.specs.promises.Written.{Written, CellsWritten}
-use Rattle.memory.specs.declared.LiveTable.{LiveTable}
+use Rattle.live_tables.specs.declared.LiveTable.{LiveTable}
 use Rattle.memory.specs.promises.Stack.{markPart, Inside, MarksInside}
 use Rattle.plan.specs.Filter.{holds, passes, passing}
 use Rattle.plan.specs.Table.{Cell, Row, blank, cellAt, rowsOf, flat}

@@ -13,9 +13,9 @@ use Rattle.cells.specs.declared.Place.{Place}
 use Rattle.cells.specs.declared.Place.the-variants as place
 use Rattle.cells.specs.promises.Search.{says, placeSays, notClearAt}
 use Rattle.cells.specs.promises.Work.{Memory, markRoom}
-use Rattle.memory.specs.declared.LiveTable.{LiveTable}
+use Rattle.live_tables.specs.declared.LiveTable.{LiveTable}
 use Rattle.memory.specs.declared.Refusal.the-variants.{NotClear}
-use Rattle.memory.specs.declared.Stack.{Stack}
+use Rattle.live_tables.specs.declared.Stack.{Stack}
 use Rattle.memory.specs.declared.StepAnswer.the-variants.{Made, Refused}
 use Rattle.memory.specs.promises.Stack.{Ready, stackIn, widthsTo, withTable, liveTable, markedIn, labelsIn, Inside, MarksInside}
 use Rattle.memory.specs.promises.Steps.{verdict, fits, fitsIn, Done}

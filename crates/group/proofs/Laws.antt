@@ -7,7 +7,7 @@ use Rattle.cells.specs.promises.Labelled.{Formed, LabelledRow, Labelled}
 use Rattle.cells.specs.promises.Work.{Memory}
 use Rattle.group.specs.promises.Fits.{groupFits}
 use Rattle.label_words.specs.WellFormed.{wellFormed}
-use Rattle.memory.specs.declared.Stack.{Stack}
+use Rattle.live_tables.specs.declared.Stack.{Stack}
 use Rattle.memory.specs.promises.Stack.{stackIn}
 use Rattle.memory.specs.promises.Steps.{fitsIn}
 use Rattle.plan.specs.Filter.{passing}

@@ -19,8 +19,8 @@ use Rattle.group.specs.declared.Grouping.{Grouping}
 use Rattle.label_discharge.specs.Discharge.{forbidsA}
 use Rattle.label_words.specs.WellFormed.{wellFormed}
 use Rattle.plan.specs.Masks.{inMask}
-use Rattle.memory.specs.declared.LiveTable.{LiveTable}
-use Rattle.memory.specs.declared.Stack.{Stack}
+use Rattle.live_tables.specs.declared.LiveTable.{LiveTable}
+use Rattle.live_tables.specs.declared.Stack.{Stack}
 use Rattle.memory.specs.declared.StepAnswer.{StepAnswer}
 use Rattle.memory.specs.declared.StepAnswer.the-variants.{Made}
 use Rattle.memory.specs.promises.Stack.{Ready, stackIn, widthsTo, withTable, liveTable, markedIn, labelsIn, Inside, MarksInside}

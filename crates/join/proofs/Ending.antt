@@ -16,9 +16,9 @@ use Rattle.cells.specs.promises.Written.{Put}
 use Rattle.pairs.specs.declared.Side.{Side}
 use Rattle.join.specs.promises.Ends.{sideOf, Finished}
 use Rattle.pairs.specs.promises.Pairs.{Sides, MarksBelow, Joined, width, sideRows, sideLabels, allRows, leftMarked, markedRows}
-use Rattle.memory.specs.declared.LiveTable.{LiveTable}
+use Rattle.live_tables.specs.declared.LiveTable.{LiveTable}
 use Rattle.memory.specs.declared.Refusal.the-variants.{NotClear, TooMany}
-use Rattle.memory.specs.declared.Stack.{Stack}
+use Rattle.live_tables.specs.declared.Stack.{Stack}
 use Rattle.memory.specs.declared.StepAnswer.the-variants.{Made, Refused}
 use Rattle.memory.specs.declared.Stepped.{Stepped}
 use Rattle.memory.specs.promises.Stack.{lastSlot, lastMarks, markPart, stackIn, withTable, markedIn, RowsAt, MarksAt}

@@ -11,8 +11,8 @@ use Rattle.cells.specs.promises.Work.{Memory, markRoom}
 use Rattle.pairs.specs.declared.Side.{Side}
 use Rattle.join.specs.promises.Ends.{sideOf}
 use Rattle.pairs.specs.promises.Pairs.{Sides, MarksBelow, width, sideLabels, markedRows}
-use Rattle.memory.specs.declared.LiveTable.{LiveTable}
-use Rattle.memory.specs.declared.Stack.{Stack}
+use Rattle.live_tables.specs.declared.LiveTable.{LiveTable}
+use Rattle.live_tables.specs.declared.Stack.{Stack}
 use Rattle.memory.specs.promises.Stack.{Ready, lastMarks, stackIn, widthsTo, liveTable, markedIn, Inside, MarksInside}
 use Rattle.memory.specs.promises.Steps.{verdict, fits}
 use Rattle.plan.specs.Join.{checkJoin, joinedRows, joined}

@@ -13,7 +13,7 @@ use Rattle.plan.specs.Masks.{inMask}
 use Rattle.cells.specs.promises.Cells.{bareRow, bareRows, Wide, rowFrom}
 use Rattle.cells.specs.promises.Work.{Work, work, cellsIn, room, Kept}
 use Rattle.cells.specs.promises.Written.{Written, CellsWritten}
-use Rattle.memory.specs.declared.LiveTable.{LiveTable}
+use Rattle.live_tables.specs.declared.LiveTable.{LiveTable}
 use Rattle.memory.specs.promises.Stack.{Inside}
 use Rattle.plan.specs.Keep.{keptCount, keptCells, keptRow}
 use Rattle.plan.specs.Table.{Each, Cell, Row, blank, cellAt, flat}

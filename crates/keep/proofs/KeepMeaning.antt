@@ -7,8 +7,8 @@ use native.Mathlib.Omega.{arith}
 use lib.ListN.{length, drop, length-map}
 use borrow.Author.Tests.{leb-true}
 use Rattle.cells.specs.promises.Work.{Work, Memory, cellsIn, markRoom}
-use Rattle.memory.specs.declared.LiveTable.{LiveTable}
-use Rattle.memory.specs.declared.Stack.{Stack}
+use Rattle.live_tables.specs.declared.LiveTable.{LiveTable}
+use Rattle.live_tables.specs.declared.Stack.{Stack}
 use Rattle.memory.specs.declared.StepAnswer.the-variants.{Made}
 use Rattle.memory.specs.promises.Stack.{Ready, markPart, stackIn, widthsTo, withTable, liveTable, rowsIn, markedIn, Inside}
 use Rattle.memory.specs.promises.Steps.{fits, fitsIn, Done}

@@ -1,6 +1,6 @@
 // The stages left on the table that begins with the first label. It is 0 where there are not so many labels.
 ghost use mathlib.Core.Path.{_≡_};
-ghost use Rattle.tally.specs.promises.Stages.{stagesAt};
+ghost use Rattle.trace_lines.specs.promises.Stages.{stagesAt};
 ghost use Rattle.label_bytes.specs.Words.{wordsOf};
 
 // By the product's sum.
@@ -8,7 +8,7 @@ ghost use Rattle.label_bytes.specs.Words.{wordsOf};
 pub extern "C" fn stages_by_words(labels: &[u32], rows: usize, columns: usize) -> u32
     ensures { λ r. ⌜ r ≡ stagesAt (now (labels .entry)) 0 rows columns ⌝ }
 {
-    tally::stages_left(labels, 0, rows, columns)
+    trace_lines::stages_left(labels, 0, rows, columns)
 }
 
 // By the first byte of each label.

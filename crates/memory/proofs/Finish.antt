@@ -18,7 +18,7 @@ use Rattle.widths.specs.declared.Width.the-variants.{Columns, Misplaced}
 use Rattle.memory.specs.Refusals.{refusalTells}
 use Rattle.memory.specs.declared.Refusal.{Refusal}
 use Rattle.memory.specs.declared.Refusal.the-variants.{NotClear, Forbidden, OperandNotClear, TooMany, NoDraw}
-use Rattle.memory.specs.declared.Stack.{Stack}
+use Rattle.live_tables.specs.declared.Stack.{Stack}
 use Rattle.memory.specs.declared.StepAnswer.{StepAnswer}
 use Rattle.memory.specs.declared.StepAnswer.the-variants.{Made, Refused, DoesNotFit}
 use Rattle.memory.specs.promises.Stack.{ready, Ready, lastSlot, lastMarks, slot, markSlot, markPart, tableIn, stackIn, withTable, RowsAt, MarksAt}

@@ -9,7 +9,7 @@ use borrow.Author.Tests.{ltb-true}
 use Rattle.cells.specs.promises.Cells.{gridOf}
 use Rattle.cells.specs.promises.Labelled.{columnFormed, columnFormedAt}
 use Rattle.cells.specs.promises.Search.{tableWithin}
-use Rattle.memory.specs.declared.LiveTable.{LiveTable}
+use Rattle.live_tables.specs.declared.LiveTable.{LiveTable}
 use Rattle.memory.specs.promises.Stack.{labelsIn}
 use Rattle.label_words.specs.WellFormed.{wellFormed}
 use Rattle.cells.proofs.Columns.{formed-next}

@@ -9,8 +9,8 @@ use borrow.Author.Tests.{le-leb, lt-ltb}
 use Rattle.cells.specs.promises.Cells.{gridOf, bareRows, Wide}
 use Rattle.cells.specs.promises.Search.{tableWithin}
 use Rattle.cells.specs.promises.Work.{Work, Memory, cellsIn, room, markRoom}
-use Rattle.memory.specs.declared.LiveTable.{LiveTable}
-use Rattle.memory.specs.declared.Stack.{Stack}
+use Rattle.live_tables.specs.declared.LiveTable.{LiveTable}
+use Rattle.live_tables.specs.declared.Stack.{Stack}
 use Rattle.memory.specs.promises.Stack.{ready, Ready, slot, markSlot, markPart, tableIn, tablesTo, stackIn, widthsTo, liveAt, liveTable, rowsIn, markedIn, tableOf, labelsIn, Inside, MarksInside}
 use Rattle.memory.specs.promises.Steps.{fits}
 use Rattle.plan.specs.Table.{Cell, Table, labelsOf, rowsOf, Each}

@@ -9,7 +9,7 @@ use lib.ListN.{length, getD, take, drop}
 use Rattle.cells.specs.promises.Cells.{gridOf}
 use Rattle.cells.specs.promises.Labelled.{columnFormed, columnFormedAt}
 use Rattle.label_words.specs.WellFormed.{wellFormed}
-use Rattle.memory.specs.declared.LiveTable.{LiveTable}
+use Rattle.live_tables.specs.declared.LiveTable.{LiveTable}
 use Rattle.memory.specs.promises.Stack.{labelsIn}
 use Rattle.plan.specs.Verdict.{Verdict, fine, orElse, firstRow}
 use Rattle.cells.proofs.Columns.{Walking, walk-begins, inside, walk-on, read-next, tested-next}

@@ -12,7 +12,7 @@ use lib.Seq.{length-take-le, drop-at, take-add, take-take}
 use borrow.Author.Tests.{leb-true, le-leb, lt-ltb, ne-eqb}
 use Rattle.cells.specs.promises.Work.{Work, Memory, cellsIn, room, markRoom}
 use Rattle.memory.specs.promises.Stack.{ready, Ready, slot, markSlot, markPart, tableIn, tablesTo, stackIn, widthsTo, replaced, withTable}
-use Rattle.memory.specs.declared.Stack.{Stack}
+use Rattle.live_tables.specs.declared.Stack.{Stack}
 use Rattle.plan.specs.Table.{Row, rowsOf}
 use Rattle.cells.proofs.Rows.{marked-same}
 

@@ -4,7 +4,7 @@ use mathlib.Core.Path.{_≡_}
 use mathlib.Core.Bool.{true}
 use Rattle.cells.specs.promises.Labelled.{Labelled}
 use Rattle.cells.specs.promises.Work.{Memory}
-use Rattle.memory.specs.declared.Stack.{Stack}
+use Rattle.live_tables.specs.declared.Stack.{Stack}
 use Rattle.memory.specs.promises.Stack.{stackIn, topFormed}
 use Rattle.plan.specs.Table.{top, Each}
 use Rattle.cells.proofs.LabelledTables.{column-formed, top-labelled}

@@ -8,8 +8,8 @@ use lib.Dec.{ltb}
 use lib.ListN.{getD}
 use borrow.Author.Tests.{le-leb, le-ltb, lt-ltb, ltb-true, ltb-false}
 use Rattle.widths.specs.promises.Widths.{madeWidth}
-use Rattle.memory.specs.declared.LiveTable.{LiveTable}
-use Rattle.memory.specs.declared.Stack.{Stack}
+use Rattle.live_tables.specs.declared.LiveTable.{LiveTable}
+use Rattle.live_tables.specs.declared.Stack.{Stack}
 use Rattle.memory.specs.promises.Stack.{ready, Ready, widthsTo, liveAt, noTable, liveTable}
 use Rattle.memory.specs.promises.Steps.{fit}
 use Rattle.plan.specs.Widths.{enoughTables}

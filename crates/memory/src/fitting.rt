@@ -2,9 +2,9 @@
 ghost use mathlib.Core.Path.{_≡_};
 ghost use mathlib.Core.List.{[]};
 ghost use Rattle.memory.specs.promises.Steps as spec;
-use super::Stack;
-use super::live::live_table;
-use super::live::ready;
+use live_tables::Stack;
+use live_tables::live_table;
+use live_tables::ready;
 use plan::Step;
 use widths::Width;
 

@@ -7,7 +7,7 @@ use lib.IntN.{ℤ}
 use lib.ListN.{drop}
 use Rattle.cells.specs.promises.Labelled.{Formed, LabelledRow, Labelled}
 use Rattle.cells.specs.promises.Work.{Memory}
-use Rattle.memory.specs.declared.Stack.{Stack}
+use Rattle.live_tables.specs.declared.Stack.{Stack}
 use Rattle.memory.specs.promises.Stack.{stackIn}
 use Rattle.memory.specs.promises.Steps.{fitsIn}
 use Rattle.noise.specs.promises.Fits.{noiseFits}

@@ -9,8 +9,8 @@ use borrow.Author.Tests.{leb-true, ltb-true, lt-ltb}
 use Rattle.cells.specs.promises.Labelled.{columnFormed, columnFormedAt}
 use Rattle.cells.specs.promises.Search.{says, unfit}
 use Rattle.cells.specs.promises.Work.{Work, Memory, markRoom}
-use Rattle.memory.specs.declared.LiveTable.{LiveTable}
-use Rattle.memory.specs.declared.Stack.{Stack}
+use Rattle.live_tables.specs.declared.LiveTable.{LiveTable}
+use Rattle.live_tables.specs.declared.Stack.{Stack}
 use Rattle.memory.specs.declared.StepAnswer.{StepAnswer}
 use Rattle.memory.specs.declared.StepAnswer.the-variants.{Made}
 use Rattle.memory.specs.promises.Stack.{Ready, stackIn, widthsTo, withTable, liveTable, rowsIn, markedIn, labelsIn, Inside, MarksInside, RowsAt}

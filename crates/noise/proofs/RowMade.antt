@@ -11,7 +11,7 @@ use Rattle.cells.specs.promises.Cells.{moved, rowFrom}
 use Rattle.cells.specs.promises.Work.{Work, work, cellsIn, room}
 use Rattle.cells.specs.promises.Written.{Put}
 use Rattle.label_discharge.specs.Discharge.{afterN}
-use Rattle.memory.specs.declared.LiveTable.{LiveTable}
+use Rattle.live_tables.specs.declared.LiveTable.{LiveTable}
 use Rattle.memory.specs.promises.Stack.{rowsIn}
 use Rattle.noise_value.specs.Noise.{noisy}
 use Rattle.noise.specs.promises.Making.{rowsMade}

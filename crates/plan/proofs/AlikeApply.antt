@@ -19,7 +19,7 @@ use Rattle.plan.specs.declared.Operand.the-variants.{Constant, Column}
 use Rattle.plan.specs.declared.Step.{Step}
 use Rattle.plan.specs.declared.Transform.{Transform}
 use Rattle.plan.specs.declared.Transform.the-variants.{Add, Sub, Cut, Band}
-use Rattle.value.specs.Arithmetic.{plus, minus, cut, band}
+use Rattle.arithmetic.specs.Arithmetic.{plus, minus, cut, band}
 use Rattle.plan.proofs.Alike.{or-fine, if-fine, Tested, tested, cells-alike, same-value}
 use Rattle.plan.proofs.LockedLaws.{transform-locked}
 use Rattle.plan.proofs.Pairs.{both-append, both-map}

@@ -5,7 +5,8 @@ use Rattle.label_laws.specs.Examples.{all, labelRows}
 use Rattle.label_laws.proofs.Examples.{label-rows-hold, all-append}
 use Rattle.plan.specs.Examples.{numberRows, examples}
 use Rattle.aggregate.specs.Aggregate.{exactSum, allInRange, rounded, average}
-use Rattle.value.specs.Arithmetic.{plus, cut, band, floored}
+use Rattle.arithmetic.specs.Arithmetic.{plus, cut, band}
+use Rattle.value.specs.Division.{floored}
 use Rattle.value.specs.Equality.{eqZ}
 use Rattle.value.specs.Range.{OVER, least, most, inRange, bothInRange, settled, ofBoth}
 

@@ -14,7 +14,7 @@ use Rattle.plan.specs.declared.Operand.{Operand}
 use Rattle.plan.specs.declared.Operand.the-variants.{Constant, Column}
 use Rattle.plan.specs.declared.Transform.{Transform}
 use Rattle.plan.specs.declared.Transform.the-variants.{Add, Sub, Cut, Band}
-use Rattle.value.specs.Arithmetic.{plus, minus, cut, band}
+use Rattle.arithmetic.specs.Arithmetic.{plus, minus, cut, band}
 
 -- "33: APPLY's second operand is not clear"
 abbrev pub operandClear : Operand → ℕ → List ℕ → Verdict

@@ -4,7 +4,7 @@ use lib.IntN.{pos, negsuc}
 use Rattle.label_laws.specs.Examples.{Example, row, labelRows}
 use Rattle.plan.specs.Group.{aggregateValue}
 use Rattle.plan.specs.declared.Aggregate.the-variants.{Avg}
-use Rattle.value.specs.Arithmetic.{plus, cut, band}
+use Rattle.arithmetic.specs.Arithmetic.{plus, cut, band}
 use Rattle.value.specs.Equality.{eqZ}
 use Rattle.value.specs.Range.{OVER, least, most}
 

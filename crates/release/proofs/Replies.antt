@@ -17,7 +17,7 @@ use Rattle.plan.specs.Verdict.{fine, refused}
 use Rattle.release.specs.declared.ReleaseAnswer.{ReleaseAnswer}
 use Rattle.release.specs.declared.ReleaseAnswer.the-variants.{StageLeft, Over, DoesNotFit}
 use Rattle.release.specs.promises.Release.{releaseSays, afterFine, roomReply, releaseReply, Releases}
-use Rattle.tally.specs.promises.Over.{firstOverAt}
+use Rattle.table_values.specs.promises.Over.{firstOverAt}
 
 module _ (w : Work) (output : List ℤ) (text : List ℕ) (rows columns : ℕ) where
   abbrev stages : Reply

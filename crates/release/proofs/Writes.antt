@@ -15,7 +15,7 @@ use Rattle.csv_writer.specs.promises.Writing.{isTable, textFits, textFrom, writ
 use Rattle.release.specs.declared.ReleaseAnswer.{ReleaseAnswer}
 use Rattle.release.specs.declared.ReleaseAnswer.the-variants.{Released, NoRoom, DoesNotFit}
 use Rattle.release.specs.promises.Release.{roomReply, Releases}
-use Rattle.tally.specs.promises.Output.{copies, copied}
+use Rattle.table_values.specs.promises.Output.{copies, copied}
 
 module _ (values output : List ℤ) (text : List ℕ) (rows columns : ℕ) where
   abbrev Promised : ReleaseAnswer → List ℤ → List ℕ → Type 0

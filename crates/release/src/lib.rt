@@ -37,7 +37,7 @@ pub fn release(
         }
         Place::Nowhere => {}
     }
-    match tally::first_over(values, 0, rows, columns) {
+    match table_values::first_over(values, 0, rows, columns) {
         Place::At(row, column) => {
             return ReleaseAnswer::Over(row, column);
         }
@@ -67,7 +67,7 @@ fn write_table(
     }
     match csv_writer::write_text(values, rows, columns, text) {
         TextWriting::Written(bytes) => {
-            tally::copy_out(values, 0, count, output);
+            table_values::copy_out(values, 0, count, output);
             ReleaseAnswer::Released(bytes)
         }
         TextWriting::TooShort => ReleaseAnswer::NoRoom,

@@ -19,7 +19,7 @@ use Rattle.cells.specs.promises.Written.{Written, CellsWritten}
 use Rattle.container.specs.Contents.{tablesOf}
 use Rattle.layout.specs.Layout.{partCount, partOf}
 use Rattle.mark_reader.specs.promises.Marks as of-marks
-use Rattle.memory.specs.declared.Stack.{Stack}
+use Rattle.live_tables.specs.declared.Stack.{Stack}
 use Rattle.memory.specs.declared.StepAnswer.the-variants.{Made}
 use Rattle.memory.specs.promises.Stack.{Ready, slot, markSlot, stackIn, widthsTo, withTable}
 use Rattle.memory.specs.promises.Steps.{verdict, fits, widthsOf, DoneWhere}

@@ -10,7 +10,7 @@ use lib.ListN.{length, getD, take, drop}
 use lib.Seq.{getD-take, getD-drop}
 use borrow.Author.Tests.{leb-true, ltb-true, ltb-false}
 use Rattle.cells.specs.promises.Work.{Work, Memory, cellsIn, room, markRoom, Kept}
-use Rattle.memory.specs.declared.Stack.{Stack}
+use Rattle.live_tables.specs.declared.Stack.{Stack}
 use Rattle.memory.specs.promises.Stack.{Ready, slot, markSlot, markPart, tablesTo}
 use Rattle.plan.specs.Table.{Cell, Table, blank, rowsOf, flat}
 use Rattle.step.specs.promises.Free.{inTable, inTables, free, markInTable, markInTables, freeMark, OnlyFreeOpen}

@@ -148,14 +148,14 @@ fn stages_left(v: &[i64], l: &[u32], m: &[u64], stack: Stack) {
     let top = memory::live_table(stack, 0);
     text(b"stages left");
     given(v, l, m, stack);
-    field(tally::stages_left(l, top.at, top.rows, top.columns) as usize);
+    field(trace_lines::stages_left(l, top.at, top.rows, top.columns) as usize);
 }
 
 fn first_over(v: &[i64], l: &[u32], m: &[u64], stack: Stack) {
     let top = memory::live_table(stack, 0);
     text(b"first OVER");
     given(v, l, m, stack);
-    place(tally::first_over(v, top.at, top.rows, top.columns));
+    place(table_values::first_over(v, top.at, top.rows, top.columns));
 }
 
 // A trace line of SCAN, 5 rows, 2 columns and 3 stages left, in a trace of nine places that holds sevens.
@@ -165,7 +165,7 @@ fn trace(step: usize) {
     text(b"line");
     field(step);
     text(b" gives");
-    done(tally::write_line(&mut trace, step, 1, 5, 2, 3));
+    done(trace_lines::write_line(&mut trace, step, 1, 5, 2, 3));
     cells(&values, &trace, 0, 9);
 }
 
@@ -178,14 +178,14 @@ fn output(v: &[i64], l: &[u32], m: &[u64], stack: Stack, count: usize, at: usize
     text(b" from");
     field(at);
     given(v, l, m, stack);
-    done(tally::copy_out(v, at, count, &mut released));
+    done(table_values::copy_out(v, at, count, &mut released));
     cells(&released, &labels, 0, 5);
 }
 
 // Work memory set to zero: its first cell, the last that is cleared, and the one behind it.
 fn clear(v: &mut [i64], l: &mut [u32], m: &mut [u64]) {
     text(b"clear gives");
-    done(tally::clear_memory(v, l, m));
+    done(zeros::clear_memory(v, l, m));
     cells(v, l, 0, 1);
     cells(v, l, 8191, 2);
 }

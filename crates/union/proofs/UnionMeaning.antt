@@ -13,9 +13,9 @@ use borrow.Author.Tests.{eqb-true, leb-true, lt-ltb, le-ltb}
 use Rattle.cells.specs.promises.Cells.{moved, canMove, Wide}
 use Rattle.cells.specs.promises.Work.{Memory, memoryOf, cellsIn, room, markRoom}
 use Rattle.cells.specs.promises.Written.{Written, CellsWritten}
-use Rattle.memory.specs.declared.LiveTable.{LiveTable}
+use Rattle.live_tables.specs.declared.LiveTable.{LiveTable}
 use Rattle.memory.specs.declared.Refusal.the-variants.{TooMany}
-use Rattle.memory.specs.declared.Stack.{Stack}
+use Rattle.live_tables.specs.declared.Stack.{Stack}
 use Rattle.memory.specs.declared.StepAnswer.the-variants.{Made, Refused}
 use Rattle.memory.specs.promises.Stack.{Ready, slot, markSlot, markPart, stackIn, widthsTo, withTable, liveTable}
 use Rattle.memory.specs.promises.Steps.{verdict, fits, fitsIn, Done}

@@ -1,5 +1,4 @@
 -- The laws of values, for other crates to cite. None asks its reader to open a definition.
 pub mod Range
 pub mod Equality
-pub mod Arithmetic
 pub mod Pattern

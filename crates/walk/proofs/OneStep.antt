@@ -1,16 +1,17 @@
 -- One step of a plan and its line. Assumes nothing.
-use Prim.Native.Nat.{ℕ, _≤_, _<_}
+use Prim.Native.Nat.{ℕ, _+_, _*_, _≤_, _<_}
 use mathlib.Core.Path.{_≡_, sym, ap, subst, _∙_}
+use mathlib.Core.Bool.{Bool, true}
 use mathlib.Core.List.{List}
 use native.Mathlib.Omega.{arith}
-use lib.IntN.{ℤ}
 use lib.ListN.{length, drop}
+use borrow.Author.Tests.{le-leb}
 use Rattle.input.specs.Verdict.{accepted}
 use Rattle.layout.specs.Layout.{partOf}
-use Rattle.cells.specs.promises.Work.{Memory, memoryOf, room, markRoom}
+use Rattle.cells.specs.promises.Work.{Memory, room, markRoom}
 use Rattle.memory.specs.promises.Stack.{Ready, stackIn}
 use Rattle.memory.specs.promises.Steps.{stepSays, verdict, Done}
-use Rattle.memory.specs.declared.Stack.{Stack}
+use Rattle.live_tables.specs.declared.Stack.{Stack}
 use Rattle.memory.specs.declared.Stepped.{Stepped}
 use Rattle.plan.specs.Table.{top}
 use Rattle.plan.specs.Trace.{lineOf}
@@ -20,14 +21,16 @@ use Rattle.plan_part.specs.promises.Steps.{stepAt}
 use Rattle.records.specs.declared.Found.{Found}
 use Rattle.records.specs.declared.Found.the-variants as found
 use Rattle.step.specs.promises.Taking.{Taken}
-use Rattle.tally.specs.promises.Lines.{withLine}
+use Rattle.trace_lines.specs.promises.Lines.{withLine}
+use Rattle.walk_slices.specs.promises.Slices.{LineWritten}
 use Rattle.walk.specs.promises.Steady.{Steady}
 use Rattle.walk.specs.promises.Walk.{stepNumber, leftGiven}
 use Rattle.accepted.proofs.AcceptedPlan.{steps-counted, steps-found}
 use Rattle.walk.proofs.TakenMeaning.{taken-done}
 use Rattle.memory.proofs.Finish.{says-is}
 use Rattle.memory.specs.declared.StepAnswer.the-variants.{Made}
-use Rattle.memory.proofs.Stacks.{is-ready, stack-length}
+use Rattle.memory.proofs.Stacks.{is-ready, to-ready, stack-length}
+use Rattle.walk_slices.proofs.LineMeaning.{longer}
 use Rattle.demands.specs.Given.{Given, checkGiven, planGiven}
 
 -- the record at an index of an accepted plan has its step
@@ -60,7 +63,10 @@ module _ {given : Given} (index used : ℕ) {w : Memory} {stack : Stack} (s : St
     pub still-ready : Ready (length (w′ .work .values)) (length (w′ .work .labels)) (done .stack)
     still-ready = is-ready (length (w′ .work .values)) (length (w′ .work .labels)) (done .stack) (done-so .made (s .fits-is) allowed .still)
 
-    pub line-made : (t : List ℕ) {t′ : List ℕ} → markRoom ≤ length (w′ .marks) → ((values : List ℤ) (marks : List ℕ) → room ≤ length values → markRoom ≤ length marks
-        → t′ ≡ withLine index (lineOf known (top (stackIn (memoryOf values (w′ .work .labels) marks) (done .stack)))) t)
-        → t′ ≡ withLine index (lineOf (stepNumber given index) (top (stackIn w′ (done .stack)))) t
-    line-made t room-is e′ = e′ (w′ .work .values) (w′ .marks) (still-ready .values-room) room-is ∙ ap (λ (k : Step). withLine index (lineOf k (top (stackIn w′ (done .stack)))) t) e
+    pub line-made : (t : List ℕ) {t′ : List ℕ} {told : Bool} → markRoom ≤ length (w′ .marks) → 4 * index + 4 ≤ length t
+        → LineWritten (w′ .work .labels) t (done .stack) index known told t′ → t′ ≡ withLine index (lineOf (stepNumber given index) (top (stackIn w′ (done .stack)))) t
+    line-made t {told = told} room-is long line =
+        let stands : told ≡ true
+        = line .told ∙ rw (to-ready _ _ _ (longer room (omega arith) still-ready), le-leb 1 _ some-made, le-leb _ _ long) in
+        line .trace-is (w′ .work .values) (w′ .marks) (still-ready .values-room) room-is
+        ∙ rw stands (ap (λ (k : Step). withLine index (lineOf k (top (stackIn w′ (done .stack)))) t) e)

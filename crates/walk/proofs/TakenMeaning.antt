@@ -12,7 +12,7 @@ use Rattle.layout.specs.Layout.{partCount, partOf}
 use Rattle.table_part.specs.TablePart.{columnsOf, sheetsOf, rowCount, cellCount}
 use Rattle.memory.specs.promises.Stack.{widthsTo}
 use Rattle.memory.specs.promises.Steps.{widthsOf, fits, fitsIn, DoneWhere, Done}
-use Rattle.memory.specs.declared.Stack.{Stack}
+use Rattle.live_tables.specs.declared.Stack.{Stack}
 use Rattle.memory.specs.declared.Stepped.{Stepped}
 use Rattle.plan.specs.Widths.{columnsExist}
 use Rattle.plan.specs.declared.Step.{Step}

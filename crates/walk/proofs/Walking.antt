@@ -16,11 +16,11 @@ use Rattle.cells.specs.promises.Labelled.{Labelled}
 use Rattle.cells.specs.promises.Search.{says}
 use Rattle.cells.specs.promises.Work.{Memory, cellsIn, room, markRoom, AllKept}
 use Rattle.memory.specs.promises.Stack.{ready, Ready, slot, markSlot, markPart, noTable, tableIn, tablesTo, stackIn, widthsTo, noTables, liveAt, liveTable}
-use Rattle.memory.specs.declared.LiveTable.{LiveTable}
+use Rattle.live_tables.specs.declared.LiveTable.{LiveTable}
 use Rattle.memory.specs.declared.Refusal.{Refusal}
 use Rattle.memory.specs.promises.Steps.{stepSays, verdict, widthsOf, Done}
 use Rattle.memory.specs.declared.StepAnswer.the-variants.{Made, Refused, DoesNotFit}
-use Rattle.memory.specs.declared.Stack.{Stack}
+use Rattle.live_tables.specs.declared.Stack.{Stack}
 use Rattle.memory.specs.declared.Stepped.{Stepped}
 use Rattle.plan.specs.Evaluate.{Outcome, Result, release, refuse, checkRelease, ending, behind, evaluateFrom, evaluate}
 use Rattle.plan.specs.Supply.{Supply, supplied, withoutDraws}
@@ -33,7 +33,7 @@ use Rattle.plan.specs.Widths.{enoughTables, placed}
 use Rattle.plan.specs.declared.Step.{Step}
 use Rattle.plan.specs.declared.Step.the-variants.{Union}
 use Rattle.plan_part.specs.PlanPart.{stepCount}
-use Rattle.tally.specs.promises.Lines.{withLine}
+use Rattle.trace_lines.specs.promises.Lines.{withLine}
 use Rattle.demands.specs.Monitor.{evaluation, written}
 use Rattle.walk.specs.promises.Steady.{Steady}
 use Rattle.walk.specs.promises.Walk.{roomIn, stepNumber, before, leftGiven, Going, finish, Walked}
@@ -48,7 +48,7 @@ use Rattle.memory.proofs.Finish.{says-is, never-unfit, verdicts}
 use Rattle.memory.proofs.Stacks.{is-ready, to-ready, widths-are, stack-length, marks-count}
 use Rattle.plan.proofs.SenseNoise.{draws-enough}
 use Rattle.plan.proofs.SenseShape.{each-get}
-use Rattle.tally.proofs.Laws.{lines-length, line-fits, line-behind}
+use Rattle.trace_lines.proofs.Laws.{lines-length, line-fits, line-behind}
 use Rattle.demands.specs.Given.{Given, checkGiven, planGiven, prepared}
 
 -- ---- lists

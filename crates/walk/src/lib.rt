@@ -1,5 +1,4 @@
 // The steps of a container's plan, taken one after the other over work memory, and their trace lines.
-mod line;
 mod steps;
 
 use input::InputRefusal;

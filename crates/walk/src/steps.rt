@@ -8,13 +8,15 @@ ghost use lib.ListN.{length};
 ghost use Rattle.cells.specs.promises.Work.{memoryOf};
 ghost use Rattle.demands.specs.Given.{given, checkGiven, planGiven};
 ghost use Rattle.input.specs.Verdict.{accepted};
-ghost use Rattle.walk.specs.promises.Walk.{walkRoom, stepNumber, Walked};
+ghost use Rattle.walk.specs.promises.Walk.{stepNumber, Walked};
+ghost use Rattle.walk_slices.specs.promises.Slices.{walkRoom};
 use super::WalkAnswer;
-use super::line::write_step;
 use input::InputCheck;
 use memory::StepAnswer;
 use plan::Step;
 use records::Found;
+use walk_slices::has_room;
+use walk_slices::write_step;
 
 // Takes the steps of a container's plan, with draws for its NOISE steps, and writes the lines of those that are finished to the trace's
 // start. Work memory and the trace are long enough where they have 8,192 elements, 1,024 marks and 256 elements.
@@ -37,13 +39,6 @@ pub fn walk(
         InputCheck::Refused(refusal) => WalkAnswer::Input(refusal),
         InputCheck::Accepted => take_steps(container, draws, values, labels, marks, trace),
     }
-}
-
-// Whether each slice has the elements that a walk needs.
-fn has_room(values: usize, labels: usize, marks: usize, trace: usize) -> bool
-    ensures { λ r. ⌜ r ≡ walkRoom values labels marks trace ⌝ }
-{
-    (8192 <= values) & (8192 <= labels) & (1024 <= marks) & (256 <= trace)
 }
 
 // Takes the steps of an accepted container's plan.

@@ -11,7 +11,7 @@ use mir.ValLaws.{sfits-le}
 use mir.Facts.{toZ-ofZ, toZ-pos}
 use borrow.Author.Needs.{needs}
 use borrow.Author.Tests.{le-leb}
-use Rattle.value.specs.Arithmetic.{floored}
+use Rattle.value.specs.Division.{floored}
 use Rattle.aggregate.specs.Aggregate.{rounded}
 use Rattle.value.proofs.Integers.{down-same, down-less}
 use Rattle.value.proofs.Machine.{back}

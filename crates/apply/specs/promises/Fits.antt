@@ -4,7 +4,7 @@ use mathlib.Core.Bool.{Bool, _&&_}
 use mathlib.Core.List.{List}
 use Rattle.cells.specs.promises.Work.{Memory}
 use Rattle.operations.specs.promises.Operations.{operationFits}
-use Rattle.memory.specs.declared.Stack.{Stack}
+use Rattle.live_tables.specs.declared.Stack.{Stack}
 use Rattle.memory.specs.promises.Stack.{topFormed}
 use Rattle.memory.specs.promises.Steps.{fitsIn}
 use Rattle.plan.specs.Supply.{Supply}

@@ -4,14 +4,14 @@ use mathlib.Core.List.{List, map}
 use lib.IntN.{ℤ, pos}
 use lib.ListN.{getD}
 use Rattle.cells.specs.promises.Work.{Work}
-use Rattle.memory.specs.declared.LiveTable.{LiveTable}
+use Rattle.live_tables.specs.declared.LiveTable.{LiveTable}
 use Rattle.memory.specs.promises.Stack.{rowsIn}
 use Rattle.operand.specs.promises.Operands.{operandAt}
 use Rattle.plan.specs.Apply.{appliedRow}
 use Rattle.plan.specs.Table.{Row}
 use Rattle.plan.specs.declared.Transform.{Transform}
 use Rattle.plan.specs.declared.Transform.the-variants.{Add, Sub, Cut, Band}
-use Rattle.value.specs.Arithmetic.{plus, minus, cut, band}
+use Rattle.arithmetic.specs.Arithmetic.{plus, minus, cut, band}
 
 -- the value of the new cell of the row whose first cell stands at a place
 abbrev pub valueAt : List ℤ → ℕ → ℕ → Transform → ℤ

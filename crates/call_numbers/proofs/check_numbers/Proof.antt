@@ -3,7 +3,7 @@ use mathlib.Core.Path.{sym, ap, _∙_}
 use Rattle.call_numbers.proofs.Told.{check-told}
 use Rattle.input.specs.Answers.{inputSays}
 use Rattle.input.specs.declared.InputCheck.{InputCheck}
-use Rattle.demands.specs.Calls.{checkNumbersOf}
+use Rattle.call_demands.specs.Calls.{checkNumbersOf}
 use borrow.Author.Needs.{needs}
 use Rattle.call_numbers.proofs.check_numbers.Statement.{statement}
 use Rattle.call_numbers.proofs.check_numbers.Tie as tie

@@ -2,9 +2,9 @@
 use mathlib.Core.Path.{sym, ap, _∙_}
 use native.Mathlib.Omega.{arith}
 use Rattle.call_numbers.proofs.Told.{input-told, step-told}
-use Rattle.demands.specs.Calls.{numbersOf}
-use Rattle.evaluator.specs.Answers.{runSays}
-use Rattle.evaluator.specs.declared.RunAnswer.{RunAnswer}
+use Rattle.call_demands.specs.Calls.{numbersOf}
+use Rattle.run_answers.specs.Answers.{runSays}
+use Rattle.run_answers.specs.declared.RunAnswer.{RunAnswer}
 use borrow.Author.Needs.{needs}
 use Rattle.call_numbers.proofs.run_numbers.Statement.{statement}
 use Rattle.call_numbers.proofs.run_numbers.Tie as tie

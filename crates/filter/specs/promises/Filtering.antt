@@ -6,7 +6,7 @@ use lib.ListN.{length}
 use Rattle.plan.specs.Table.{flat}
 use Rattle.cells.specs.promises.Work.{Memory, AllKept}
 use Rattle.cells.specs.promises.Written.{Written, CellsWritten}
-use Rattle.memory.specs.declared.LiveTable.{LiveTable}
+use Rattle.live_tables.specs.declared.LiveTable.{LiveTable}
 use Rattle.memory.specs.promises.Stack.{markedIn}
 use Rattle.plan.specs.Filter.{passes, passing}
 use Rattle.plan.specs.declared.Comparison.{Comparison}

@@ -13,7 +13,7 @@ use Rattle.accumulator.specs.promises.Accumulators.{single, withValues}
 use Rattle.accumulator.specs.declared.Accumulator.{Accumulator}
 use Rattle.cells.specs.promises.Cells.{cellsOf, bareRows, rowFrom, tableRows}
 use Rattle.chains.specs.promises.Chains.{Chain}
-use Rattle.memory.specs.declared.LiveTable.{LiveTable}
+use Rattle.live_tables.specs.declared.LiveTable.{LiveTable}
 use Rattle.plan.specs.Group.{composedAfter, distinct}
 use Rattle.plan.specs.Numbers.{aggregateCode}
 use Rattle.plan.specs.Table.{Each, Cell, Row, cellAt}

@@ -6,7 +6,7 @@ use lib.ListN.{getD}
 use Rattle.cells.specs.promises.Labelled.{columnFormedAt}
 use Rattle.cells.specs.promises.Search.{Reply, says, unfit}
 use Rattle.label_discharge.specs.Discharge.{forbidsA}
-use Rattle.memory.specs.declared.LiveTable.{LiveTable}
+use Rattle.live_tables.specs.declared.LiveTable.{LiveTable}
 use Rattle.memory.specs.promises.Stack.{labelsIn}
 use Rattle.plan.specs.Group.{checkGroup}
 use Rattle.plan.specs.Verdict.{Verdict, refuseIf}

@@ -5,9 +5,9 @@ use lib.ListN.{length, take}
 use Rattle.cells.specs.promises.Work.{Memory, cellsIn, AllKept}
 use Rattle.pairs.specs.declared.Side.{Side}
 use Rattle.pairs.specs.promises.Pairs.{width, markedRows}
-use Rattle.memory.specs.declared.LiveTable.{LiveTable}
+use Rattle.live_tables.specs.declared.LiveTable.{LiveTable}
 use Rattle.memory.specs.declared.Refusal.the-variants.{TooMany}
-use Rattle.memory.specs.declared.Stack.{Stack}
+use Rattle.live_tables.specs.declared.Stack.{Stack}
 use Rattle.memory.specs.declared.StepAnswer.the-variants.{Made, Refused}
 use Rattle.memory.specs.declared.Stepped.{Stepped}
 use Rattle.memory.specs.promises.Stack.{lastSlot, lastMarks, withTable, RowsAt, MarksAt}

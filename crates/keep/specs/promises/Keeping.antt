@@ -5,7 +5,7 @@ use mathlib.Core.List.{map}
 use Rattle.cells.specs.promises.Cells.{rowFrom}
 use Rattle.cells.specs.promises.Work.{Work, cellsIn, Kept}
 use Rattle.cells.specs.promises.Written.{CellsWritten}
-use Rattle.memory.specs.declared.LiveTable.{LiveTable}
+use Rattle.live_tables.specs.declared.LiveTable.{LiveTable}
 use Rattle.memory.specs.promises.Stack.{rowsIn}
 use Rattle.plan.specs.Keep.{keptCount, keptCells, keptRow}
 use Rattle.plan.specs.Table.{flat}

@@ -11,7 +11,7 @@ use Rattle.widths.specs.declared.Width.{Width}
 use Rattle.widths.specs.declared.Width.the-variants.{Columns, Misplaced}
 use Rattle.memory.specs.declared.Refusal.{Refusal}
 use Rattle.memory.specs.Refusals.{refusalTells}
-use Rattle.memory.specs.declared.Stack.{Stack}
+use Rattle.live_tables.specs.declared.Stack.{Stack}
 use Rattle.memory.specs.declared.StepAnswer.{StepAnswer}
 use Rattle.memory.specs.declared.StepAnswer.the-variants.{Made, Refused, DoesNotFit}
 use Rattle.memory.specs.declared.Stepped.{Stepped}

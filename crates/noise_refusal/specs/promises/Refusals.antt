@@ -4,7 +4,7 @@ use mathlib.Core.Bool.{cond}
 use mathlib.Core.List.{List}
 use Rattle.cells.specs.promises.Labelled.{columnFormedAt}
 use Rattle.cells.specs.promises.Search.{Reply, says, unfit}
-use Rattle.memory.specs.declared.LiveTable.{LiveTable}
+use Rattle.live_tables.specs.declared.LiveTable.{LiveTable}
 use Rattle.memory.specs.promises.Stack.{labelsIn}
 use Rattle.plan.specs.Noise.{checkNoise}
 

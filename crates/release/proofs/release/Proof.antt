@@ -5,7 +5,7 @@ use borrow.Author.Needs.{needs}
 use Rattle.cells.specs.declared.Place.the-variants.{Nowhere}
 use Rattle.cells.specs.promises.Search.{placeSays, notClearAt}
 use Rattle.cells.specs.promises.Work.{work}
-use Rattle.tally.specs.promises.Over.{firstOverAt}
+use Rattle.table_values.specs.promises.Over.{firstOverAt}
 use Rattle.release.proofs.Replies.{few-cells, stage-left, labels-unfit, over-left, values-unfit, then-written}
 use Rattle.release.proofs.release.Statement.{statement}
 use Rattle.release.proofs.release.Tie as tie

@@ -12,8 +12,8 @@ use Rattle.plan.specs.Verdict.{fine, refused, refuseIf}
 use Rattle.release.specs.declared.ReleaseAnswer.{ReleaseAnswer}
 use Rattle.release.specs.declared.ReleaseAnswer.the-variants as answer
 use Rattle.csv_writer.specs.promises.Writing.{isTable, textFits, textFrom, textWritten}
-use Rattle.tally.specs.promises.Output.{copied}
-use Rattle.tally.specs.promises.Over.{firstOverAt}
+use Rattle.table_values.specs.promises.Output.{copied}
+use Rattle.table_values.specs.promises.Over.{firstOverAt}
 
 -- what each answer says
 abbrev pub releaseSays : ReleaseAnswer → Reply

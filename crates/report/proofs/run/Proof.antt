@@ -10,10 +10,10 @@ use lib.ListN.{length, getD}
 use borrow.Author.Needs.{needs}
 use borrow.Author.Tests.{le-leb}
 use Rattle.demands.specs.Answers.{Told}
-use Rattle.demands.specs.Calls.{RunCall, numbersOf, runCalled, runCall}
+use Rattle.call_demands.specs.Calls.{RunCall, numbersOf, runCalled, runCall}
 use Rattle.demands.specs.Given.{given}
 use Rattle.demands.specs.Lent.{Lent, enough, lent}
-use Rattle.demands.proofs.CallProof.{long-call}
+use Rattle.call_demands.proofs.CallProof.{long-call}
 use Rattle.demands.proofs.Texts.{answer-same}
 use Rattle.report.specs.promises.Number.{CallNumber}
 use Rattle.report.proofs.run.Statement.{statement}

@@ -5,7 +5,7 @@ use mathlib.Core.Bool.{true}
 use mathlib.Core.List.{List}
 use lib.IntN.{ℤ}
 use lib.ListN.{length}
-use Rattle.demands.specs.Calls.{runCall}
+use Rattle.call_demands.specs.Calls.{runCall}
 use Rattle.demands.specs.Given.{given}
 use Rattle.demands.specs.Lent.{Lent, enough}
 

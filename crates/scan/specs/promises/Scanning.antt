@@ -7,7 +7,7 @@ use lib.ListN.{length}
 use Rattle.cells.specs.promises.Work.{markRoom}
 use Rattle.container.specs.Contents.{tablesOf}
 use Rattle.layout.specs.Layout.{partOf}
-use Rattle.memory.specs.declared.Stack.{Stack}
+use Rattle.live_tables.specs.declared.Stack.{Stack}
 use Rattle.memory.specs.promises.Steps.{fits, widthsOf}
 use Rattle.plan.specs.declared.Step.the-variants.{Scan}
 use Rattle.table_part.specs.TablePart.{columnsOf, sheetsOf, rowCount, cellCount}

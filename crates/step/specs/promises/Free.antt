@@ -7,7 +7,7 @@ use lib.Dec.{leb, ltb}
 use lib.IntN.{pos}
 use lib.ListN.{length, getD}
 use Rattle.cells.specs.promises.Work.{Memory, room, markRoom}
-use Rattle.memory.specs.declared.Stack.{Stack}
+use Rattle.live_tables.specs.declared.Stack.{Stack}
 use Rattle.memory.specs.declared.Stepped.{Stepped}
 use Rattle.memory.specs.promises.Stack.{slot, markSlot, stackIn}
 use Rattle.memory.specs.promises.Steps.{verdict, DoneWhere}

@@ -8,7 +8,7 @@ use Rattle.apply.specs.promises.Fits.{applyFits}
 use Rattle.cells.specs.promises.Work.{Memory}
 use Rattle.container.specs.Contents.{tablesOf}
 use Rattle.group.specs.promises.Fits.{groupFits}
-use Rattle.memory.specs.declared.Stack.{Stack}
+use Rattle.live_tables.specs.declared.Stack.{Stack}
 use Rattle.memory.specs.declared.Stepped.{Stepped}
 use Rattle.memory.specs.promises.Steps.{fitsIn, DoneWhere}
 use Rattle.noise.specs.promises.Fits.{noiseFits}

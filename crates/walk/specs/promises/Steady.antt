@@ -7,7 +7,7 @@ use Rattle.cells.specs.promises.Labelled.{Labelled}
 use Rattle.cells.specs.promises.Work.{Memory}
 use Rattle.memory.specs.promises.Stack.{stackIn}
 use Rattle.memory.specs.promises.Steps.{fitsIn}
-use Rattle.memory.specs.declared.Stack.{Stack}
+use Rattle.live_tables.specs.declared.Stack.{Stack}
 use Rattle.plan.specs.Table.{Each}
 use Rattle.plan.specs.declared.Step.{Step}
 use Rattle.demands.specs.Given.{Given, checkGiven, supplyGiven}

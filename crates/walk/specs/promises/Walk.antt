@@ -1,19 +1,18 @@
 -- The steps of a plan, taken one after the other over work memory.
 use Prim.Native.Nat.{ℕ, _*_, _≤_}
 use mathlib.Core.Path.{_≡_}
-use mathlib.Core.Bool.{Bool, true, false, _&&_}
+use mathlib.Core.Bool.{Bool, true, false}
 use mathlib.Core.List.{List, [], _∷_, _++_}
-use lib.Dec.{leb}
 use lib.ListN.{length, getD, drop}
 use Rattle.accepted.specs.Accepted.{Placed}
 use Rattle.input.specs.Answers.{inputTells}
 use Rattle.input.specs.Verdict.{accepted, rejected}
 use Rattle.cells.specs.promises.Labelled.{Labelled}
-use Rattle.cells.specs.promises.Work.{Memory, AllKept, room, markRoom}
+use Rattle.cells.specs.promises.Work.{Memory, AllKept}
 use Rattle.memory.specs.promises.Stack.{Ready, tableIn, stackIn}
 use Rattle.memory.specs.promises.Steps.{widthsOf}
 use Rattle.memory.specs.Refusals.{refusalTells}
-use Rattle.memory.specs.declared.Stack.{Stack}
+use Rattle.live_tables.specs.declared.Stack.{Stack}
 use Rattle.plan.specs.Evaluate.{Outcome, Result, release, refuse, checkRelease, ending, behind, evaluateFrom}
 use Rattle.plan.specs.Supply.{Supply, withoutDraws}
 use Rattle.plan.specs.Table.{Each, Table}
@@ -23,13 +22,11 @@ use Rattle.plan.specs.declared.Step.{Step}
 use Rattle.plan.specs.declared.Step.the-variants.{Union}
 use Rattle.demands.specs.Given.{Given, checkGiven, planGiven, prepared, supplyGiven}
 use Rattle.demands.specs.Monitor.{evaluation, written}
+use Rattle.walk_slices.specs.promises.Slices.{walkRoom}
 use Rattle.walk.specs.declared.WalkAnswer.{WalkAnswer}
 use Rattle.walk.specs.declared.WalkAnswer.the-variants as answer
 
--- the lengths of work memory and of the trace that a walk needs
-abbrev pub walkRoom : ℕ → ℕ → ℕ → ℕ → Bool
-walkRoom values labels marks trace = leb room values && leb room labels && leb markRoom marks && leb 256 trace
-
+-- work memory and the trace have the lengths that a walk needs
 abbrev pub roomIn : Memory → List ℕ → Bool
 roomIn work trace = walkRoom (length (work .work .values)) (length (work .work .labels)) (length (work .marks)) (length trace)
 

@@ -1,7 +1,7 @@
 -- `apply::making::new_value` meets its contract. Assumes nothing.
 use mathlib.Core.Path.{ap, _∙_}
 use borrow.Author.Needs.{sfits-of, needs}
-use Rattle.value.specs.Arithmetic.{plus, minus, cut, band}
+use Rattle.arithmetic.specs.Arithmetic.{plus, minus, cut, band}
 use Rattle.value.proofs.Machine.{said, said₂, back-is}
 use Rattle.apply.proofs.making.new_value.Statement.{statement}
 use Rattle.apply.proofs.making.new_value.Tie as tie

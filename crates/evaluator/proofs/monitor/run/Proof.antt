@@ -1,14 +1,14 @@
 -- `evaluator::monitor::run` meets its contract. Assumes nothing.
-use mathlib.Core.Path.{_≡_, subst, _∙_}
+use mathlib.Core.Path.{_≡_, subst}
 use mathlib.Core.Logic.{⊎-elim}
 use denote.Ref.{now}
 use borrow.Author.Needs.{needs}
 use Rattle.cells.specs.promises.Work.{Memory, memoryOf}
 use Rattle.demands.specs.Given.{given}
-use Rattle.evaluator.specs.Answers.{runSays}
+use Rattle.run_answers.specs.Answers.{runSays}
 use Rattle.walk.specs.declared.WalkAnswer.{WalkAnswer}
 use Rattle.walk.specs.promises.Walk.{Walked}
-use Rattle.evaluator.proofs.RunMeaning.{output-short, work-short, input-refused, Evaluated, step-refused, some-columns, steps-finished, still-long, run-begun}
+use Rattle.evaluator.proofs.RunMeaning.{output-short, work-short, input-refused, Evaluated, step-refused, steps-released, run-begun}
 use Rattle.evaluator.proofs.monitor.run.Statement.{statement}
 use Rattle.evaluator.proofs.monitor.run.Tie as tie
 
@@ -85,15 +85,11 @@ enum-known-step c = search needs
 enum-known-steps : tie.Need-enum-known-steps
 enum-known-steps c = search needs
 
-released-requires : tie.Need-released-requires
-released-requires c κs =
-    let m = c .before .before .before .before .before in
-    let k = m .before .before .before .before .before .before .before .before .before in
-    let a = start k .args in
-    let long = k .before .before .before .before .before .if1 .left in
-    let w = walked k (m .steps .given .1) in
-    let n = still-long (given (now (a .container)) (now (a .draws))) (memory (start k)) (now (a .output)) (now (a .trace)) (now (a .text)) long (w .0) in
-    (w .1 .few-rows, some-columns (given (now (a .container)) (now (a .draws))) (memory (start k)) (now (a .output)) (now (a .trace)) (now (a .text)) long w, w .1 .few-columns, n .0, n .1, long)
+release-requires : tie.Need-release-requires
+release-requires c κs = search needs
+
+of-release-requires : tie.Need-of-release-requires
+of-release-requires c κs = search needs
 
 -- the arms meet
 evaluated : (c : tie.At-match-came) → let k = c .before .before .before .before .before .before .before .before in let a = start k .args in
@@ -105,7 +101,7 @@ evaluated c =
     let long = k .before .before .before .before .before .if1 .left in
     ⊎-elim
     (λ w. rw (w .3, w .4, w .5) (step-refused (given (now (a .container)) (now (a .draws))) (memory (start k)) (now (a .output)) (now (a .trace)) (now (a .text)) long (w .1 .given .0 .0) (w .1 .given .0 .1 .0) (walked k (w .1 .given .1))))
-    (λ w. rw (w .11, w .12, w .13) (steps-finished (given (now (a .container)) (now (a .draws))) (memory (start k)) (now (a .output)) (now (a .trace)) (now (a .text)) long _ _ _ (walked k (w .1 .given .1)) (w .7 .ensures)))
+    (λ w. rw (w .12, w .13, w .14) (steps-released (given (now (a .container)) (now (a .draws))) (memory (start k)) (now (a .output)) (now (a .trace)) (now (a .text)) long _ _ _ (walked k (w .1 .given .1)) (w .7 .ensures) (w .11 .ensures)))
     (c .match .came)
 
 clear-memory-requires : tie.Need-clear-memory-requires
@@ -127,7 +123,7 @@ same-length-13 : tie.Need-same-length-13
 same-length-13 c = search needs
 
 same-length-14 : tie.Need-same-length-14
-same-length-14 c = ⊎-elim (λ w. search needs) (λ w. rw (w .12) (search (needs, w .9 .given))) (c .before .before .before .before .before .before .before .before .before .match .came)
+same-length-14 c = ⊎-elim (λ w. search needs) (λ w. rw (w .13) (search (needs, w .9 .given))) (c .before .before .before .before .before .before .before .before .before .match .came)
 
 returns-4 : tie.Need-returns-4
 returns-4 c =
@@ -156,7 +152,8 @@ run-spec =
     returns-3
     enum-known-step
     enum-known-steps
-    released-requires
+    release-requires
+    of-release-requires
     clear-memory-requires
     same-length-9
     same-length-10

@@ -12,7 +12,7 @@ use Rattle.label_words.specs.Stages.{stageCount}
 use Rattle.plan.specs.Trace.{stagesIn}
 use Rattle.cells.proofs.Searching.{within-table}
 use Rattle.label_bytes.specs.Words.{wordsOf}
-use Rattle.tally.proofs.Sums.{stages-flat, one-counted, at-most-four}
+use Rattle.trace_lines.proofs.Sums.{stages-flat, one-counted, at-most-four}
 use Rattle.label_bytes.proofs.Bytes.{first-ones}
 use Rattle.label_bytes.proofs.Words.{words-length, word-at}
 use Rattle.label_bytes.proofs.stages.stages_by_bytes.Statement.{statement}

@@ -6,7 +6,7 @@ use denote.Ref.{now}
 use lib.ListN.{length, take, drop, length-drop}
 use lib.Seq.{take-all}
 use borrow.Author.Needs.{needs}
-use Rattle.cells.specs.promises.Work.{memoryOf, room, markRoom, AllKept}
+use Rattle.cells.specs.promises.Work.{memoryOf, markRoom, AllKept}
 use Rattle.demands.specs.Given.{Given, given, planGiven}
 use Rattle.memory.specs.promises.Stack.{stackIn}
 use Rattle.plan.specs.Steps.{drawsUsed}
@@ -14,8 +14,7 @@ use Rattle.plan.specs.Table.{top}
 use Rattle.step.specs.promises.Taking.{Taken}
 use Rattle.walk.specs.promises.Steady.{Steady}
 use Rattle.walk.specs.promises.Walk.{stepNumber, Going}
-use Rattle.walk.proofs.LineMeaning.{longer}
-use Rattle.walk.proofs.OneStep.{done-so, some-made, still-ready, line-made}
+use Rattle.walk.proofs.OneStep.{done-so, line-made}
 use Rattle.walk.proofs.Walking.{all-then, count-is, top-rows, go-begin, go-marks, go-room, go-steady, go-drawn, go-on, go-fits, go-refused, go-end}
 use Rattle.walk.proofs.steps.take_steps.Statement.{statement}
 use Rattle.walk.proofs.steps.take_steps.Tie as tie
@@ -157,15 +156,7 @@ enum-told-2 : tie.Need-enum-told-2 Inv-loop μ-loop
 enum-told-2 c = search needs
 
 write-step-requires : tie.Need-write-step-requires Inv-loop μ-loop
-write-step-requires c κs =
-    let m = c .before .before .before in
-    let k = m .before .before .before .before .before .before .before in
-    let i = turn k in
-    let made = m .enum-told2 .given .1 in (
-      some-made _ (i .before .loop .used) (steady i) (known k) (taken k) made,
-      go-room (start i .pre .0) (start i .pre .1) (going i) (inside i),
-      longer room (omega arith) (still-ready _ (i .before .loop .used) (steady i) (known k) (taken k) made),
-    )
+write-step-requires c κs = search needs
 
 draws-used-requires : tie.Need-draws-used-requires Inv-loop μ-loop
 draws-used-requires c κs = search needs
@@ -210,7 +201,7 @@ loop-again c =
     let i = turn k in
     let made = made-is c .enum-told2 .given .1 in
     let done = done-so _ (i .before .loop .used) (steady i) (known k) (taken k) in
-    let line = line-made _ (i .before .loop .used) (steady i) (known k) (taken k) made _ (omega (arith, many i, done .kept .marks .as-many)) (c .before .before .before .write-step .ensures) in (
+    let line = line-made _ (i .before .loop .used) (steady i) (known k) (taken k) made _ (omega (arith, many i, done .kept .marks .as-many)) (go-room (start i .pre .0) (start i .pre .1) (going i) (inside i)) (c .before .before .before .write-step .ensures) in (
       omega (arith, i .loop-test .taken),
       i .before .loop .inv .1,
       go-on (start i .pre .0) (start i .pre .1) (going i) (inside i) (done-so _ (i .before .loop .used) (steady i) (known k) (taken k)) made _ _ (used-is c) line,

@@ -6,7 +6,7 @@ use lib.ListN.{length}
 use borrow.Author.Needs.{needs}
 use borrow.Author.Tests.{not-true, not-false}
 use Rattle.input.specs.Answers.{inputSays}
-use Rattle.walk.specs.promises.Walk.{walkRoom}
+use Rattle.walk_slices.specs.promises.Slices.{walkRoom}
 use Rattle.walk.proofs.steps.walk.Statement.{statement}
 use Rattle.walk.proofs.steps.walk.Tie as tie
 

@@ -1,2 +1,0 @@
--- `Ends`: the answer, the output and the text of a run, by what it comes to.
-pub mod Ends
