@@ -12,7 +12,8 @@ use Rattle.accumulator.specs.declared.Accumulator.{Accumulator}
 use Rattle.plan.specs.Group.{foldedFrom, aggregateValue}
 use Rattle.plan.specs.declared.Aggregate.{Aggregate}
 use Rattle.plan.specs.declared.Aggregate.the-variants.{Count, Sum, Min, Max, Avg}
-use Rattle.aggregate.specs.Aggregate.{smaller, larger, accumulated, exactSum, allInRange, average}
+use Rattle.aggregate.specs.Aggregate.{smaller, larger, accumulated, exactSum, allInRange}
+use Rattle.rounding.specs.Rounding.{average}
 use Rattle.value.specs.Range.{inRange, OVER, settled}
 use Rattle.aggregate.proofs.Laws.{accumulated-all}
 

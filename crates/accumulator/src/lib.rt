@@ -2,10 +2,10 @@
 ghost use mathlib.Core.Path.{_≡_};
 ghost use Rattle.accumulator.specs.promises.Accumulators as spec;
 use aggregate::accumulated;
-use aggregate::average;
 use aggregate::larger;
 use aggregate::smaller;
 use plan::Aggregate;
+use rounding::average;
 use value::range::OVER;
 use value::range::in_range;
 use value::range::settled;

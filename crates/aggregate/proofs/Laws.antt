@@ -5,21 +5,20 @@ use mathlib.Core.Logic.{_⊎_, inl, inr}
 use mathlib.Core.Bool.{Bool, true, false, cond, _&&_, and-eq-true-iff}
 use mathlib.Core.List.{List, [], _∷_, _++_, append-assoc, append-nil, foldl}
 use Prim.Native.Nat.{ℕ, _*_, _^_, _≤_, _<_}
-use native.Mathlib.Nat.{div-lt-iff-lt-mul}
 use native.Mathlib.Omega.{arith}
-use lib.Dec.{ltb, lit≤}
-use lib.IntN.{ℤ, pos, natAbs, _+ℤ_, +ℤ-idr, +ℤ-idl, +ℤ-one, +ℤ-assoc}
+use lib.Dec.{lit≤}
+use lib.IntN.{ℤ, pos, natAbs, _+ℤ_, +ℤ-idr, +ℤ-idl, +ℤ-assoc}
 use lib.ListN.{length, length-append}
-use lib.Signed.{mag, leZ, shrZ, _≤ℤ_, natAbs-le, ≤ℤ-refl, leZ-yes}
-use borrow.Author.Tests.{lt-ltb}
-use Rattle.value.specs.Range.{inRange, bothInRange, OVER, settled}
-use Rattle.value.specs.Division.{floored}
-use Rattle.aggregate.specs.Aggregate.{smaller, larger, exactSum, allInRange, hasRoom, accumulated, rounded, average}
-use Rattle.aggregate.specs.Sentences.{Floored}
-use Rattle.value.proofs.Integers.{so, leZ-other, mag-plus, mag-down, mag-natAbs, down-below, down-above}
+use lib.Signed.{mag, leZ, _≤ℤ_, natAbs-le, ≤ℤ-refl, leZ-yes}
+use Rattle.value.specs.Range.{inRange, bothInRange, OVER}
+use Rattle.aggregate.specs.Aggregate.{smaller, larger, exactSum, allInRange, hasRoom, accumulated}
+use Rattle.rounding.specs.Rounding.{rounded, average}
+use Rattle.rounding.specs.Sentences.{Floored}
+use Rattle.rounding.proofs.Laws.{rounded-floor, rounded-size, average-exact}
+use Rattle.value.proofs.Integers.{so, leZ-other, mag-plus, mag-natAbs}
 use Rattle.value.proofs.Sizes.{in-size, size-in}
 use Rattle.aggregate.proofs.Room.{size-room}
-use Rattle.value.proofs.Laws.Range.{Result, in-both, of-both-in, of-both-out, of-both-result, guarded, settled-result, settled-in, settled-exact}
+use Rattle.value.proofs.Laws.Range.{Result, in-both, of-both-in, of-both-out, of-both-result}
 
 -- ---- the smaller and the larger
 
@@ -142,30 +141,10 @@ accumulated-all vs e l = accumulated-from [] vs e l
 
 -- ---- the average
 
-pub average-result : (total : ℤ) (rows : ℕ) → Result (average total rows)
-unfolding average
-average-result total rows = guarded (ltb 0 rows) (settled (rounded total rows)) (λ e. settled-result (rounded total rows))
-
-pub rounded-floor : (total : ℤ) (rows : ℕ) → 0 < rows → Floored rows total (rounded total rows)
-unfolding rounded floored
-rounded-floor total rows p = record { below = down-below total p; above = rw +ℤ-one (down-above total p) }
-
-pub average-floor : (total : ℤ) (rows : ℕ) → 0 < rows → inRange (average total rows) ≡ true → Floored rows total (average total rows)
-unfolding average
-average-floor total rows p e =
-    rw (lt-ltb 0 rows p, settled-exact (rounded total rows) (rw (lt-ltb 0 rows p) at e)) (rounded-floor total rows p)
-
 -- the average of values is never out of range by itself
 rounded-in : (vs : List ℤ) → allInRange vs ≡ true → 0 < length vs → inRange (rounded (exactSum vs) (length vs)) ≡ true
-unfolding rounded floored
-rounded-in vs e p =
-    size-in (shrZ (exactSum vs) (length vs))
-    (rw (mag-down (exactSum vs) (length vs)) (div-lt-iff-lt-mul p .1 (omega (arith, sum-size vs e p))))
+rounded-in vs e p = size-in (rounded (exactSum vs) (length vs)) (rounded-size (exactSum vs) p (omega (arith, sum-size vs e p)))
 
-pub average-exact : (vs : List ℤ) → allInRange vs ≡ true → 0 < length vs
-    → average (exactSum vs) (length vs) ≡ rounded (exactSum vs) (length vs)
-unfolding average
-average-exact vs e p = rw (lt-ltb 0 (length vs) p) (settled-in (rounded (exactSum vs) (length vs)) (rounded-in vs e p))
-
-pub average-in : (vs : List ℤ) → allInRange vs ≡ true → 0 < length vs → inRange (average (exactSum vs) (length vs)) ≡ true
-average-in vs e p = rw (average-exact vs e p) (rounded-in vs e p)
+pub average-floor : (vs : List ℤ) → allInRange vs ≡ true → 0 < length vs
+    → Floored (length vs) (exactSum vs) (average (exactSum vs) (length vs))
+average-floor vs e p = rw (average-exact (exactSum vs) p (rounded-in vs e p)) (rounded-floor (exactSum vs) p)

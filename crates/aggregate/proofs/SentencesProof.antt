@@ -1,12 +1,10 @@
 -- Document 01's sentences on aggregates. Assumes nothing.
-use lib.ListN.{length}
 use Rattle.value.proofs.Laws.Range.{both-in, left-out, right-out}
-use Rattle.aggregate.specs.Aggregate.{exactSum}
 use Rattle.aggregate.specs.Sentences.{AverageIsFloored, SmallerIsLeast, LargerIsGreatest}
-use Rattle.aggregate.proofs.Laws.{smaller-out, larger-out, smaller-below, larger-above, smaller-one, larger-one, average-floor, average-in}
+use Rattle.aggregate.proofs.Laws.{smaller-out, larger-out, smaller-below, larger-above, smaller-one, larger-one, average-floor}
 
 pub average-is-floored : AverageIsFloored
-average-is-floored values e p = average-floor (exactSum values) (length values) p (average-in values e p)
+average-is-floored = average-floor
 
 pub smaller-is-least : SmallerIsLeast
 smaller-is-least = record {

@@ -2,12 +2,10 @@
 -- Assumes nothing.
 use mathlib.Core.Bool.{Bool, true, cond, _&&_}
 use mathlib.Core.List.{List, [], _∷_}
-use Prim.Native.Nat.{ℕ, _-_, _^_}
-use lib.Dec.{ltb}
+use Prim.Native.Nat.{_-_, _^_}
 use lib.IntN.{ℤ, pos, negsuc, _+ℤ_}
 use lib.Signed.{leZ}
-use Rattle.value.specs.Range.{inRange, OVER, settled, ofBoth}
-use Rattle.value.specs.Division.{floored}
+use Rattle.value.specs.Range.{inRange, ofBoth}
 
 -- "sum, min and max are of exact values". A group's min and max are made of these, a pair at a time.
 unfoldable pub smaller : ℤ → ℤ → ℤ
@@ -33,11 +31,3 @@ hasRoom total = leZ (negsuc (2 ^ 62 - 1)) total && leZ total (pos (2 ^ 62 - 1))
 -- A running sum with one value more. It stays where the number is out of range or the sum has no room.
 unfoldable pub accumulated : ℤ → ℤ → ℤ
 accumulated total v = cond (inRange v && hasRoom total) (total +ℤ v) total
-
--- "avg is the exact sum divided by the row count, rounded toward minus infinity"
-unfoldable pub rounded : ℤ → ℕ → ℤ
-rounded total rows = floored total rows
-
--- No rows have no average: OVER.
-unfoldable pub average : ℤ → ℕ → ℤ
-average total rows = cond (ltb 0 rows) (settled (rounded total rows)) OVER

@@ -3,17 +3,14 @@ use mathlib.Core.Path.{_≡_}
 use mathlib.Core.Bool.{true, false}
 use mathlib.Core.List.{List}
 use mathlib.Core.Logic.{_⊎_}
-use Prim.Native.Nat.{ℕ, _<_}
-use lib.IntN.{ℤ, pos, _+ℤ_, _*ℤ_}
+use Prim.Native.Nat.{_<_}
+use lib.IntN.{ℤ}
 use lib.ListN.{length}
-use lib.Signed.{_≤ℤ_, _<ℤ_}
+use lib.Signed.{_≤ℤ_}
 use Rattle.value.specs.Range.{inRange, OVER}
-use Rattle.aggregate.specs.Aggregate.{smaller, larger, exactSum, allInRange, average}
-
--- q is v divided by n and rounded toward minus infinity: q ≤ v / n < q + 1
-pub record Floored (n : ℕ) (v q : ℤ) : Type 0 where
-  pub below : (pos n *ℤ q) ≤ℤ v
-  pub above : v <ℤ (pos n *ℤ (q +ℤ pos 1))
+use Rattle.aggregate.specs.Aggregate.{smaller, larger, exactSum, allInRange}
+use Rattle.rounding.specs.Rounding.{average}
+use Rattle.rounding.specs.Sentences.{Floored}
 
 -- "avg is the exact sum divided by the row count, rounded toward minus infinity"
 abbrev pub AverageIsFloored : Type 0

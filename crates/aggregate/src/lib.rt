@@ -1,13 +1,11 @@
 // What the aggregates of a group are made of.
 ghost use mathlib.Core.Path.{_≡_};
 ghost use mathlib.Core.Bool.{cond};
-ghost use Prim.Native.Nat.{_<_};
 ghost use Rattle.value.specs.Range.{ofBoth};
-ghost use Rattle.aggregate.specs.Aggregate.{smaller, larger, hasRoom, accumulated, rounded, average};
+ghost use Rattle.aggregate.specs.Aggregate.{smaller, larger, hasRoom, accumulated};
 use value::range::OVER;
 use value::range::both_in_range;
 use value::range::in_range;
-use value::range::settled;
 
 // The first or the second of two values.
 fn chosen(first: bool, a: i64, b: i64) -> i64
@@ -55,26 +53,5 @@ pub fn accumulated(total: i64, v: i64) -> i64
         total + v
     } else {
         total
-    }
-}
-
-// An exact sum divided by the rows, rounded toward minus infinity.
-fn rounded(total: i64, rows: u32) -> i64
-    requires { ⌜ 0 < rows ⌝ }
-    ensures { λ r. ⌜ r ≡ rounded total rows ⌝ }
-{
-    let n = rows as i64;
-    let q = total / n;
-    if total % n < 0 { q - 1 } else { q }
-}
-
-// The average of rows with an exact sum. No rows give OVER.
-pub fn average(total: i64, rows: u32) -> i64
-    ensures { λ r. ⌜ r ≡ average total rows ⌝ }
-{
-    if 0 < rows {
-        settled(rounded(total, rows))
-    } else {
-        OVER
     }
 }

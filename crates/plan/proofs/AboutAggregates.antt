@@ -8,9 +8,10 @@ use lib.IntN.{ℤ}
 use lib.ListN.{length}
 use lib.Signed.{leZ, ltZ, _≤ℤ_, <ℤ-≤ℤ-trans, clashℤ, ≤ℤ-refl}
 use borrow.Author.Tests.{not-false}
-use Rattle.aggregate.specs.Aggregate.{exactSum, allInRange, average}
+use Rattle.aggregate.specs.Aggregate.{exactSum, allInRange}
 use Rattle.aggregate.specs.Sentences.{Chosen}
 use Rattle.aggregate.proofs.SentencesProof.{average-is-floored, smaller-is-least, larger-is-greatest}
+use Rattle.rounding.specs.Rounding.{average}
 use Rattle.plan.specs.Group.{foldedFrom, folded, aggregateValue}
 use Rattle.plan.specs.Table.{Each}
 use Rattle.plan.specs.Sense.Aggregates.{AggregatesExact, CountIsRows, AggregatesOver}

@@ -4,7 +4,8 @@ use mathlib.Core.Bool.{true}
 use Rattle.label_laws.specs.Examples.{all, labelRows}
 use Rattle.label_laws.proofs.Examples.{label-rows-hold, all-append}
 use Rattle.plan.specs.Examples.{numberRows, examples}
-use Rattle.aggregate.specs.Aggregate.{exactSum, allInRange, rounded, average}
+use Rattle.aggregate.specs.Aggregate.{exactSum, allInRange}
+use Rattle.rounding.specs.Rounding.{rounded, average}
 use Rattle.arithmetic.specs.Arithmetic.{plus, cut, band}
 use Rattle.value.specs.Division.{floored}
 use Rattle.value.specs.Equality.{eqZ}

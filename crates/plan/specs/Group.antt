@@ -16,7 +16,8 @@ use Rattle.plan.specs.Table.{Cell, Row, Table, cellAt}
 use Rattle.plan.specs.Verdict.{Verdict, orElse, refuseIf, firstRow, notClear}
 use Rattle.plan.specs.declared.Aggregate.{Aggregate}
 use Rattle.plan.specs.declared.Aggregate.the-variants.{Count, Sum, Min, Max, Avg}
-use Rattle.aggregate.specs.Aggregate.{smaller, larger, exactSum, allInRange, average}
+use Rattle.aggregate.specs.Aggregate.{smaller, larger, exactSum, allInRange}
+use Rattle.rounding.specs.Rounding.{average}
 use Rattle.comparison.specs.Comparison.{same}
 use Rattle.value.specs.Range.{OVER, settled}
 

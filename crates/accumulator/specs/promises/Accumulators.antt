@@ -5,7 +5,8 @@ use mathlib.Core.List.{List, [], _∷_}
 use lib.Dec.{ltb}
 use lib.IntN.{ℤ, pos}
 use Rattle.accumulator.specs.declared.Accumulator.{Accumulator}
-use Rattle.aggregate.specs.Aggregate.{smaller, larger, accumulated, average}
+use Rattle.aggregate.specs.Aggregate.{smaller, larger, accumulated}
+use Rattle.rounding.specs.Rounding.{average}
 use Rattle.plan.specs.declared.Aggregate.{Aggregate}
 use Rattle.plan.specs.declared.Aggregate.the-variants.{Count, Sum, Min, Max, Avg}
 use Rattle.value.specs.Range.{inRange, OVER, settled}

@@ -7,7 +7,7 @@ use lib.IntN.{ℤ, pos}
 use lib.ListN.{length}
 use lib.Signed.{_≤ℤ_}
 use Rattle.aggregate.specs.Aggregate.{exactSum}
-use Rattle.aggregate.specs.Sentences.{Floored}
+use Rattle.rounding.specs.Sentences.{Floored}
 use Rattle.plan.specs.Group.{aggregateValue}
 use Rattle.plan.specs.Table.{Each}
 use Rattle.plan.specs.declared.Aggregate.{Aggregate}

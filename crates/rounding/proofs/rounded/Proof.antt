@@ -1,4 +1,4 @@
--- `aggregate::rounded` meets its contract: the quotient toward zero, less one where the remainder is negative, fits, and is the
+-- `rounding::rounded` meets its contract: the quotient toward zero, less one where the remainder is negative, fits, and is the
 -- quotient rounded down.
 -- Assumes nothing.
 use mathlib.Core.Path.{_≡_, sym}
@@ -12,12 +12,12 @@ use mir.Facts.{toZ-ofZ, toZ-pos}
 use borrow.Author.Needs.{needs}
 use borrow.Author.Tests.{le-leb}
 use Rattle.value.specs.Division.{floored}
-use Rattle.aggregate.specs.Aggregate.{rounded}
+use Rattle.rounding.specs.Rounding.{rounded}
 use Rattle.value.proofs.Integers.{down-same, down-less}
 use Rattle.value.proofs.Machine.{back}
 use Rattle.value.proofs.Operation.{divides, back-rest}
-use Rattle.aggregate.proofs.rounded.Statement.{statement}
-use Rattle.aggregate.proofs.rounded.Tie as tie
+use Rattle.rounding.proofs.rounded.Statement.{statement}
+use Rattle.rounding.proofs.rounded.Tie as tie
 
 -- the rows, as the machine reads them for the division
 rows : (c : tie.Start) → toZ w64 (c .args .rows) ≡ pos (c .args .rows)

@@ -1,12 +1,12 @@
--- `aggregate::average` meets its contract.
+-- `rounding::average` meets its contract.
 -- Assumes nothing.
 use borrow.Author.Needs.{needs, sfits-of}
 use borrow.Author.Tests.{lt-ltb, le-ltb}
 use Rattle.value.specs.Range.{OVER, settled}
-use Rattle.aggregate.specs.Aggregate.{rounded, average}
+use Rattle.rounding.specs.Rounding.{rounded, average}
 use Rattle.value.proofs.Machine.{back-is, said}
-use Rattle.aggregate.proofs.average.Statement.{statement}
-use Rattle.aggregate.proofs.average.Tie as tie
+use Rattle.rounding.proofs.average.Statement.{statement}
+use Rattle.rounding.proofs.average.Tie as tie
 
 rounded-requires : tie.Need-rounded-requires
 rounded-requires c κs = search needs

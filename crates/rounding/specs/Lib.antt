@@ -1,0 +1,3 @@
+-- The average.
+pub mod Rounding
+pub mod Sentences
