@@ -551,13 +551,37 @@ fn grouped(
             Aggregate::Min => classes.hit_if(least != greatest, "min of unequal values"),
             Aggregate::Max => classes.hit_if(least != greatest, "max of unequal values"),
             Aggregate::Avg => {
-                let rest = sum % rows.len() as i128;
-                classes.hit_if(sum < 0 && rest != 0, "avg of a negative sum, with remainder");
-                classes.hit_if(sum > 0 && rest != 0, "avg of a positive sum, with remainder");
                 classes.hit_if(outside, "avg of a sum outside the range");
+                averaged(sum, rows.len() as i128, classes);
             }
         }
     }
+}
+
+/// Where the exact average lies between the two whole numbers beside it.
+fn averaged(sum: i128, rows: i128, classes: &mut Classes) {
+    let (below, rest) = (sum.div_euclid(rows), sum.rem_euclid(rows));
+    classes.hit_if(rows == 1, "avg of one row");
+    classes.hit_if(rows == 256, "avg of 256 rows");
+    classes.hit_if(rows == 256 && rest != 0, "avg of 256 rows, with remainder");
+    classes.hit_if(rows == 256 && rest == 128, "avg of 256 rows, the half");
+    classes.hit_if(sum == -1 && rows == 2, "avg of -1/2");
+    classes.hit(match (rest, 2 * rest - rows, sum > 0, below % 2 == 0) {
+        (0, _, _, _) => "avg with no remainder",
+        (_, ..=-1, true, _) => "avg above zero, below the half",
+        (_, 1.., true, _) => "avg above zero, past the half",
+        (_, ..=-1, false, _) => "avg below zero, below the half",
+        (_, 1.., false, _) => "avg below zero, past the half",
+        (_, 0, true, true) => "avg above zero, the half above an even number",
+        (_, 0, true, false) => "avg above zero, the half above an odd number",
+        (_, 0, false, true) => "avg below zero, the half above an even number",
+        (_, 0, false, false) => "avg below zero, the half above an odd number",
+    });
+    let (most, least) = (HIGHEST as i128, LOWEST as i128);
+    classes.hit_if(rows > 1 && sum == most * rows, "avg is 2^47 - 1, of several rows");
+    classes.hit_if(rows > 1 && sum == least * rows, "avg is -2^47, of several rows");
+    classes.hit_if(below == most - 1 && 2 * rest > rows, "avg is rounded to 2^47 - 1");
+    classes.hit_if(below == least && rest > 0 && 2 * rest <= rows, "avg is rounded to -2^47");
 }
 
 fn group_labels(

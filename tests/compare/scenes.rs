@@ -14,7 +14,7 @@ pub struct Scene {
     pub steps: Vec<RawStep>,
 }
 
-const SCENES: [fn(&mut Rng) -> Scene; 31] = [
+const SCENES: [fn(&mut Rng) -> Scene; 33] = [
     union_at_the_limit,
     join_at_the_limit,
     whole_output,
@@ -26,6 +26,8 @@ const SCENES: [fn(&mut Rng) -> Scene; 31] = [
     join_not_clear,
     over_keys,
     sums_at_the_ends,
+    averages,
+    averages,
     over_before_a_stage,
     group_a_composed_label,
     any_digits,
@@ -288,6 +290,18 @@ fn sums_at_the_ends(rng: &mut Rng) -> Scene {
     let code = rng.pick(&[1, 1, 1, 2, 3, 4, 4]);
     let group = step(7, rng.below(2) as u8, code, 1, 0, 0);
     Scene { tables: vec![RawTable::new(2, cells)], steps: vec![scan(0), group] }
+}
+
+/// Averages about the half between a number and the next, which about half of
+/// the rows have, at the ends of the range and around zero.
+fn averages(rng: &mut Rng) -> Scene {
+    let rows = rng.pick(&[2, 3, 4, 5, 128, 255, 256]);
+    let number = rng.pick(&[LOWEST, LOWEST, -3, -2, -1, 0, 1, HIGHEST - 1, HIGHEST - 1]);
+    let more = rows / 2 + rng.between(-1, 1);
+    let word = if rng.chance(50) { 0x2010_0002 } else { 0 };
+    let cells = (0..rows).map(|row| (number + (row < more) as i64, word)).collect();
+    let group = step(7, 0, 4, 0, 0, 0);
+    Scene { tables: vec![RawTable::new(1, cells)], steps: vec![scan(0), group] }
 }
 
 fn over_before_a_stage(rng: &mut Rng) -> Scene {

@@ -51,11 +51,33 @@ fn examples_8_to_10_values() {
     let known = Value::Known;
     assert_eq!(known(-15).cut(1), known(-1));
     assert_eq!(known(-15).band(10), known(-20));
-    assert_eq!(aggregate(Aggregate::Avg, &[known(-1), known(0)]), known(-1));
+    assert_eq!(aggregate(Aggregate::Avg, &[known(-1), known(0)]), known(0));
+    assert_eq!(aggregate(Aggregate::Avg, &[known(1), known(2)]), known(2));
     assert_eq!(known(LOWEST).band(3), Value::Over);
     assert_eq!(known(HIGHEST).add(known(1)), Value::Over);
     let add = Operation::Add(Operand::Constant(1));
     assert_eq!(label(0x80000000).after_operation(&add), Err(Forbidden));
+}
+
+/// Document 02, #105: "the nearest whole number, ties to the even one", by
+/// trying every number around.
+#[test]
+fn average_is_the_nearest() {
+    for rows in 1..=9i64 {
+        for sum in -60..=60i64 {
+            let mut group = vec![Value::Known(0); rows as usize];
+            group[0] = Value::Known(sum);
+            let average = match aggregate(Aggregate::Avg, &group) {
+                Value::Known(number) => number,
+                Value::Over => panic!("{sum} over {rows} rows"),
+            };
+            let far = |number: i64| (sum - rows * number).abs();
+            for other in (-70..=70).filter(|&other| other != average) {
+                assert!(far(average) <= far(other), "{sum} over {rows} rows");
+                assert!(far(average) < far(other) || average % 2 == 0, "{sum} over {rows} rows");
+            }
+        }
+    }
 }
 
 /// The printed case's container, with the label of the two cells in column 1.

@@ -77,9 +77,20 @@ impl Value {
     }
 }
 
+/// Document 02, #105: "The average becomes the nearest whole number, ties to the
+/// even one." A half more and rounded down is the nearest, the upper one of two.
+fn nearest(sum: i128, rows: i128) -> i128 {
+    let upper = (2 * sum + rows).div_euclid(2 * rows);
+    let halfway = (2 * sum + rows) % (2 * rows) == 0;
+    if halfway && upper % 2 != 0 {
+        upper - 1
+    } else {
+        upper
+    }
+}
+
 /// "sum, min and max are of exact values; avg is the exact sum divided by the
-/// row count, rounded toward minus infinity; count is the rows." The group has
-/// at least one row.
+/// row count", rounded so; "count is the rows." The group has at least one row.
 pub fn aggregate(kind: Aggregate, group: &[Value]) -> Value {
     if kind == Aggregate::Count {
         return exact(group.len() as i128);
@@ -100,7 +111,7 @@ pub fn aggregate(kind: Aggregate, group: &[Value]) -> Value {
         Aggregate::Sum => exact(sum),
         Aggregate::Min => exact(least),
         Aggregate::Max => exact(greatest),
-        Aggregate::Avg => exact(sum.div_euclid(group.len() as i128)),
+        Aggregate::Avg => exact(nearest(sum, group.len() as i128)),
         Aggregate::Count => unreachable!(),
     }
 }

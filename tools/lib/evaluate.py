@@ -4,6 +4,7 @@ This is a reading of its own, beside the monitor's, to explain an output: what i
 draws: a value that NOISE makes is not known, and where such values decide which rows a step makes, the evaluation ends.
 """
 from collections import Counter, namedtuple
+from fractions import Fraction
 
 import labels
 import steps
@@ -190,7 +191,7 @@ def aggregate_value(operation, values):
     if DRAWN in values:
         return DRAWN
     if operation == 4:
-        return settled(sum(values) // len(values))
+        return settled(round(Fraction(sum(values), len(values))))  # to the nearest, a tie to the even one
     return settled((sum, min, max)[operation - 1](values))
 
 

@@ -4,17 +4,19 @@ use mathlib.Core.Path.{_≡_, refl, sym, ap, _∙_}
 use mathlib.Core.Logic.{_⊎_, inl, inr}
 use mathlib.Core.Bool.{Bool, true, false, cond, _&&_, and-eq-true-iff}
 use mathlib.Core.List.{List, [], _∷_, _++_, append-assoc, append-nil, foldl}
-use Prim.Native.Nat.{ℕ, _*_, _^_, _≤_, _<_}
+use Prim.Native.Nat.{ℕ, suc, _+_, _-_, _*_, _^_, _≤_, _<_}
 use native.Mathlib.Omega.{arith}
-use lib.Dec.{lit≤}
-use lib.IntN.{ℤ, pos, natAbs, _+ℤ_, +ℤ-idr, +ℤ-idl, +ℤ-assoc}
+use lib.Dec.{ltb, leb→le, le→leb, lit≤}
+use lib.IntN.{ℤ, pos, negsuc, natAbs, _+ℤ_, +ℤ-idr, +ℤ-idl, +ℤ-assoc}
 use lib.ListN.{length, length-append}
 use lib.Signed.{mag, leZ, _≤ℤ_, natAbs-le, ≤ℤ-refl, leZ-yes}
 use Rattle.value.specs.Range.{inRange, bothInRange, OVER}
 use Rattle.aggregate.specs.Aggregate.{smaller, larger, exactSum, allInRange, hasRoom, accumulated}
 use Rattle.rounding.specs.Rounding.{rounded, average}
-use Rattle.rounding.specs.Sentences.{Floored}
-use Rattle.rounding.proofs.Laws.{rounded-floor, rounded-size, average-exact}
+use Rattle.rounding.specs.Sentences.{Nearest}
+use Rattle.rounding.proofs.Distances.{size-below, rounded-size}
+use Rattle.rounding.proofs.Laws.{average-exact}
+use Rattle.rounding.proofs.SentencesProof.{rounded-is-nearest}
 use Rattle.value.proofs.Integers.{so, leZ-other, mag-plus, mag-natAbs}
 use Rattle.value.proofs.Sizes.{in-size, size-in}
 use Rattle.aggregate.proofs.Room.{size-room}
@@ -97,6 +99,10 @@ unfolding exactSum
 sum-append [] vs = sym (+ℤ-idl (exactSum vs))
 sum-append (u ∷ us) vs = rw (sum-append us vs) (sym (+ℤ-assoc u (exactSum us) (exactSum vs)))
 
+either-most : (t : Bool) (x y : ℕ) {m : ℕ} → y ≤ m → cond t (negsuc x) (pos y) ≤ℤ pos m
+either-most true x y h = record { le = tt }
+either-most false x y {m} h = record { le = le→leb y m h }
+
 -- the sum of n values lies in n times the range
 sum-size : (vs : List ℤ) → allInRange vs ≡ true → 0 < length vs → mag (exactSum vs) < length vs * 2 ^ 47
 unfolding exactSum allInRange
@@ -105,6 +111,20 @@ sum-size (v ∷ []) e p = rw (+ℤ-idr v) (omega (arith, in-size v (and-eq-true-
 sum-size (v ∷ (w ∷ ws)) e p =
     let h = and-eq-true-iff (inRange v) (allInRange (w ∷ ws)) .0 e in
     omega (arith, mag-plus v (exactSum (w ∷ ws)) (in-size v (h .0)) (sum-size (w ∷ ws) (h .1) (omega arith)))
+
+plus-most : (a b : ℤ) {p q m : ℕ} → a ≤ℤ pos p → b ≤ℤ pos q → p + q ≤ m → (a +ℤ b) ≤ℤ pos m
+plus-most (pos a) (pos b) {p} {q} {m} h k l = record { le = le→leb (a + b) m (omega (arith, leb→le a p (h .le), leb→le b q (k .le))) }
+plus-most (pos a) (negsuc b) {p} h k l = either-most (ltb a (suc b)) (suc b - suc a) (a - suc b) (omega (arith, leb→le a p (h .le)))
+plus-most (negsuc a) (pos b) {p} {q} h k l = either-most (ltb b (suc a)) (suc a - suc b) (b - suc a) (omega (arith, leb→le b q (k .le)))
+plus-most (negsuc a) (negsuc b) h k l = record { le = tt }
+
+-- and is at most n times the most
+sum-most : (vs : List ℤ) → allInRange vs ≡ true → exactSum vs ≤ℤ pos (length vs * (2 ^ 47 - 1))
+unfolding exactSum allInRange
+sum-most [] e = record { le = tt }
+sum-most (v ∷ vs) e =
+    let h = and-eq-true-iff (inRange v) (allInRange vs) .0 e in
+    plus-most v (exactSum vs) (size-below v (2 ^ 47 - 1) (omega (arith, in-size v (h .0)))) (sum-most vs (h .1)) (omega arith)
 
 pub sum-magnitude : (vs : List ℤ) → allInRange vs ≡ true → length vs ≤ 256 → natAbs (exactSum vs) ≤ 2 ^ 55
 unfolding exactSum
@@ -143,8 +163,10 @@ accumulated-all vs e l = accumulated-from [] vs e l
 
 -- the average of values is never out of range by itself
 rounded-in : (vs : List ℤ) → allInRange vs ≡ true → 0 < length vs → inRange (rounded (exactSum vs) (length vs)) ≡ true
-rounded-in vs e p = size-in (rounded (exactSum vs) (length vs)) (rounded-size (exactSum vs) p (omega (arith, sum-size vs e p)))
+rounded-in vs e p =
+    size-in (rounded (exactSum vs) (length vs))
+    (rounded-size (exactSum vs) p (2 ^ 47 - 1) (sum-most vs e) (omega (arith, sum-size vs e p)))
 
-pub average-floor : (vs : List ℤ) → allInRange vs ≡ true → 0 < length vs
-    → Floored (length vs) (exactSum vs) (average (exactSum vs) (length vs))
-average-floor vs e p = rw (average-exact (exactSum vs) p (rounded-in vs e p)) (rounded-floor (exactSum vs) p)
+pub average-nearest : (vs : List ℤ) → allInRange vs ≡ true → 0 < length vs
+    → Nearest (length vs) (exactSum vs) (average (exactSum vs) (length vs))
+average-nearest vs e p = rw (average-exact (exactSum vs) p (rounded-in vs e p)) (rounded-is-nearest (exactSum vs) (length vs) p)

@@ -1,10 +1,10 @@
 -- Document 01's sentences on aggregates. Assumes nothing.
 use Rattle.value.proofs.Laws.Range.{both-in, left-out, right-out}
-use Rattle.aggregate.specs.Sentences.{AverageIsFloored, SmallerIsLeast, LargerIsGreatest}
-use Rattle.aggregate.proofs.Laws.{smaller-out, larger-out, smaller-below, larger-above, smaller-one, larger-one, average-floor}
+use Rattle.aggregate.specs.Sentences.{AverageIsNearest, SmallerIsLeast, LargerIsGreatest}
+use Rattle.aggregate.proofs.Laws.{smaller-out, larger-out, smaller-below, larger-above, smaller-one, larger-one, average-nearest}
 
-pub average-is-floored : AverageIsFloored
-average-is-floored = average-floor
+pub average-is-nearest : AverageIsNearest
+average-is-nearest = average-nearest
 
 pub smaller-is-least : SmallerIsLeast
 smaller-is-least = record {

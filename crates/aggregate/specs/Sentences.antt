@@ -10,12 +10,12 @@ use lib.Signed.{_≤ℤ_}
 use Rattle.value.specs.Range.{inRange, OVER}
 use Rattle.aggregate.specs.Aggregate.{smaller, larger, exactSum, allInRange}
 use Rattle.rounding.specs.Rounding.{average}
-use Rattle.rounding.specs.Sentences.{Floored}
+use Rattle.rounding.specs.Sentences.{Nearest}
 
--- "avg is the exact sum divided by the row count, rounded toward minus infinity"
-abbrev pub AverageIsFloored : Type 0
-AverageIsFloored = (values : List ℤ) → allInRange values ≡ true → 0 < length values
-    → Floored (length values) (exactSum values) (average (exactSum values) (length values))
+-- "avg is the exact sum divided by the row count", by #105 rounded to "the nearest whole number, ties to the even one"
+abbrev pub AverageIsNearest : Type 0
+AverageIsNearest = (values : List ℤ) → allInRange values ≡ true → 0 < length values
+    → Nearest (length values) (exactSum values) (average (exactSum values) (length values))
 
 -- the one of two values that is not above, or not below, the other; OVER with OVER
 pub record Chosen (Before : ℤ → ℤ → Type 0) (choice : ℤ → ℤ → ℤ) : Type 0 where

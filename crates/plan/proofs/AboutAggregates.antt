@@ -10,7 +10,7 @@ use lib.Signed.{leZ, ltZ, _≤ℤ_, <ℤ-≤ℤ-trans, clashℤ, ≤ℤ-refl}
 use borrow.Author.Tests.{not-false}
 use Rattle.aggregate.specs.Aggregate.{exactSum, allInRange}
 use Rattle.aggregate.specs.Sentences.{Chosen}
-use Rattle.aggregate.proofs.SentencesProof.{average-is-floored, smaller-is-least, larger-is-greatest}
+use Rattle.aggregate.proofs.SentencesProof.{average-is-nearest, smaller-is-least, larger-is-greatest}
 use Rattle.rounding.specs.Rounding.{average}
 use Rattle.plan.specs.Group.{foldedFrom, folded, aggregateValue}
 use Rattle.plan.specs.Table.{Each}
@@ -82,7 +82,7 @@ aggregates-exact (v ∷ rest) h p =
       min-least = min .first;
       max-one = max .one;
       max-greatest = max .first;
-      avg = rw avg (average-is-floored (v ∷ rest) e h);
+      avg = rw avg (average-is-nearest (v ∷ rest) e h);
     }
 
 pub count-is-rows : CountIsRows

@@ -1,29 +1,14 @@
--- The average: its rounding, and its range.
+-- The average: a value or OVER, and the rounded quotient where that is in range.
 -- Assumes nothing.
 use mathlib.Core.Path.{_≡_}
 use mathlib.Core.Bool.{true}
-use Prim.Native.Nat.{ℕ, _*_, _^_, _<_}
-use native.Mathlib.Nat.{div-lt-iff-lt-mul}
-use native.Mathlib.Omega.{arith}
+use Prim.Native.Nat.{ℕ, _<_}
 use lib.Dec.{ltb}
-use lib.IntN.{ℤ, +ℤ-one}
-use lib.Signed.{mag}
+use lib.IntN.{ℤ}
 use borrow.Author.Tests.{lt-ltb}
 use Rattle.value.specs.Range.{inRange, settled}
-use Rattle.value.specs.Division.{floored}
 use Rattle.rounding.specs.Rounding.{rounded, average}
-use Rattle.rounding.specs.Sentences.{Floored}
-use Rattle.value.proofs.Integers.{mag-down, down-below, down-above}
 use Rattle.value.proofs.Laws.Range.{Result, guarded, settled-result, settled-in}
-
-pub rounded-floor : (total : ℤ) {rows : ℕ} → 0 < rows → Floored rows total (rounded total rows)
-unfolding rounded floored
-rounded-floor total p = record { below = down-below total p; above = rw +ℤ-one (down-above total p) }
-
--- a sum within so many times a range has a quotient in the range
-pub rounded-size : (total : ℤ) {rows m : ℕ} → 0 < rows → mag total < m * rows → mag (rounded total rows) < m
-unfolding rounded floored
-rounded-size total {rows} p h = rw (mag-down total rows) (div-lt-iff-lt-mul p .1 h)
 
 pub average-result : (total : ℤ) (rows : ℕ) → Result (average total rows)
 unfolding average

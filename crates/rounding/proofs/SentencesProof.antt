@@ -1,6 +1,9 @@
--- Document 01's sentence on the average's rounding. Assumes nothing.
-use Rattle.rounding.specs.Sentences.{RoundedIsFloored}
-use Rattle.rounding.proofs.Laws.{rounded-floor}
+-- #105's sentence on the average. Assumes nothing.
+use Rattle.rounding.specs.Sentences.{RoundedIsNearest, NearestIsOne}
+use Rattle.rounding.proofs.Nearest.{rounded-nearest, nearest-one}
 
-pub rounded-is-floored : RoundedIsFloored
-rounded-is-floored total rows p = rounded-floor total p
+pub rounded-is-nearest : RoundedIsNearest
+rounded-is-nearest total rows p = rounded-nearest total p
+
+pub nearest-is-one : NearestIsOne
+nearest-is-one total rows p q n = nearest-one total p q n

@@ -22,6 +22,10 @@ mag-neg (pos zero) = zero-le
 mag-neg (pos (suc n)) = omega arith
 mag-neg (negsuc n) = le-refl (suc n)
 
+pub natAbs-neg : (m : ℕ) → natAbs (negℤ (pos m)) ≡ m
+natAbs-neg zero = refl
+natAbs-neg (suc m) = refl
+
 pub mag-natAbs : (z : ℤ) → mag z ≤ natAbs z
 mag-natAbs (pos n) = le-refl n
 mag-natAbs (negsuc n) = le-suc n
@@ -133,7 +137,7 @@ minus-both x r k =
     ap (λ (z : ℤ). (x +ℤ r) +ℤ z) (negℤ-+ℤ r k) ∙ sym (+ℤ-assoc (x +ℤ r) (negℤ r) (negℤ k))
     ∙ ap (λ (z : ℤ). z -ℤ k) (+ℤ-negℤ-cancel x r)
 
-times-pred : (k q : ℤ) → k *ℤ predℤ q ≡ k *ℤ q -ℤ k
+pub times-pred : (k q : ℤ) → k *ℤ predℤ q ≡ k *ℤ q -ℤ k
 times-pred k q = *ℤ-comm k (predℤ q) ∙ predℤ-*ℤ q k ∙ ap (λ (z : ℤ). z -ℤ k) (*ℤ-comm q k)
 
 -- a number less its remainder, raised by the divisor where that is negative, is the multiple not above it
@@ -184,11 +188,7 @@ neg-above (suc x) {a} h = record { lt = lt→ltb x a (omega arith) }
 -- the remainder is smaller than the divisor, and has the number's sign or is 0
 pub rest-small : (v : ℤ) {n : ℕ} → 0 < n → natAbs (remZ v (pos n)) < n
 rest-small (pos a) p = mod-lt a p
-rest-small (negsuc a) {n} p = rw (size-neg (suc a % n)) (mod-lt (suc a) p)
-  where
-    size-neg : (m : ℕ) → natAbs (negℤ (pos m)) ≡ m
-    size-neg zero = refl
-    size-neg (suc m) = refl
+rest-small (negsuc a) {n} p = rw (natAbs-neg (suc a % n)) (mod-lt (suc a) p)
 
 pub rest-up : (v : ℤ) (n : ℕ) → pos 0 ≤ℤ v → pos 0 ≤ℤ remZ v (pos n)
 rest-up (pos a) n h = record { le = le→leb 0 (a % n) zero-le }

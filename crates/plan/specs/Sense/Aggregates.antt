@@ -7,7 +7,7 @@ use lib.IntN.{ℤ, pos}
 use lib.ListN.{length}
 use lib.Signed.{_≤ℤ_}
 use Rattle.aggregate.specs.Aggregate.{exactSum}
-use Rattle.rounding.specs.Sentences.{Floored}
+use Rattle.rounding.specs.Sentences.{Nearest}
 use Rattle.plan.specs.Group.{aggregateValue}
 use Rattle.plan.specs.Table.{Each}
 use Rattle.plan.specs.declared.Aggregate.{Aggregate}
@@ -15,14 +15,14 @@ use Rattle.plan.specs.declared.Aggregate.the-variants.{Count, Sum, Min, 
 use Rattle.value.specs.Range.{inRange, OVER}
 use Rattle.value.specs.Sentences.{Settles}
 
--- "sum, min and max are of exact values; avg is the exact sum divided by the row count, rounded toward minus infinity"
+-- "sum, min and max are of exact values; avg is the exact sum divided by the row count", by #105 "the nearest whole number, ties to the even one"
 pub record Aggregated (values : List ℤ) : Type 0 where
   pub sum : Settles (exactSum values) (aggregateValue Sum values)
   pub min-one : List·Memᴰ (aggregateValue Min values) values
   pub min-least : Each (λ v. aggregateValue Min values ≤ℤ v) values
   pub max-one : List·Memᴰ (aggregateValue Max values) values
   pub max-greatest : Each (λ v. v ≤ℤ aggregateValue Max values) values
-  pub avg : Floored (length values) (exactSum values) (aggregateValue Avg values)
+  pub avg : Nearest (length values) (exactSum values) (aggregateValue Avg values)
 
 abbrev pub AggregatesExact : Type 0
 AggregatesExact = (values : List ℤ) → 0 < length values → Each (λ v. inRange v ≡ true) values → Aggregated values

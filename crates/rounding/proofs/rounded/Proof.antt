@@ -1,60 +1,103 @@
--- `rounding::rounded` meets its contract: the quotient toward zero, less one where the remainder is negative, fits, and is the
--- quotient rounded down.
+-- `rounding::rounded` meets its contract: twice the remainder and one more than the quotient fit, and the test is that of the
+-- definition.
 -- Assumes nothing.
-use mathlib.Core.Path.{_≡_, sym}
+use mathlib.Core.Path.{_≡_, refl, ap, _∙_}
+use mathlib.Core.Bool.{Bool, true, cond, _&&_, _||_}
+use Prim.Native.Nat.{ℕ, _-_, _*_, _^_, _<_}
 use native.Mathlib.Omega.{arith}
-use lib.IntN.{pos, _-ℤ_, -ℤ-one}
-use lib.Signed.{mag-shr, quotZ, shrZ}
+use lib.Dec.{eqb, lit<}
+use lib.IntN.{ℤ, pos, _+ℤ_}
+use lib.Signed.{mag-shr, mag-rem, ltZ, remZ, shrZ}
 use mir.Syntax.{w64}
-use mir.Val.{toZ}
+use mir.Val.{toZ, ofZ, SFits}
 use mir.ValLaws.{sfits-le}
 use mir.Facts.{toZ-ofZ, toZ-pos}
-use borrow.Author.Needs.{needs}
-use borrow.Author.Tests.{le-leb}
+use borrow.Author.Needs.{needs, sfits-of}
 use Rattle.value.specs.Division.{floored}
-use Rattle.rounding.specs.Rounding.{rounded}
-use Rattle.value.proofs.Integers.{down-same, down-less}
-use Rattle.value.proofs.Machine.{back}
-use Rattle.value.proofs.Operation.{divides, back-rest}
+use Rattle.rounding.specs.Rounding.{distance, rounded}
+use Rattle.value.proofs.Machine.{back, back-is, said, eqb-bits}
+use Rattle.value.proofs.Operation.{divides}
+use Rattle.rounding.proofs.Distances.{remainder, remainder-below, distance-floor, even-is, stays, rounded-is, size-below, rounded-size}
 use Rattle.rounding.proofs.rounded.Statement.{statement}
 use Rattle.rounding.proofs.rounded.Tie as tie
 
--- the rows, as the machine reads them for the division
-rows : (c : tie.Start) → toZ w64 (c .args .rows) ≡ pos (c .args .rows)
-rows c = toZ-pos w64 (omega arith)
+module _ (c : tie.After-remainder) where
+  abbrev v : ℤ
+  v = c .before .before .args .total
+
+  abbrev n : ℕ
+  n = c .before .before .args .rows
+
+  p : 0 < n
+  p = c .before .before .pre
+
+  fits : SFits w64 v
+  fits = c .before .before .fits .total
+
+  -- what the two calls answered
+  quotient : back (c .before .floored .result) ≡ shrZ v n
+  unfolding floored
+  quotient = back-is (c .before .floored .result) (c .before .floored .ok) ∙ said (λ t. floored t n) fits (c .before .floored .ensures)
+
+  quotient-fits : SFits w64 (shrZ v n)
+  quotient-fits = sfits-le (mag-shr v n) fits
+
+  left : back (c .remainder .result) ≡ pos (remainder v n)
+  unfolding floored
+  left =
+      back-is (c .remainder .result) (c .remainder .ok)
+      ∙ said (λ t. pos (distance t n (floored t n))) fits (c .remainder .ensures)
+      ∙ ap pos (distance-floor v p)
+
+  twice : SFits w64 (pos (2 * remainder v n))
+  twice = sfits-of (omega (arith, remainder-below v p))
+
+  -- the code's test, as the machine reads it
+  abbrev Test : Bool
+  Test = ltZ (pos (2 * remainder v n)) (toZ w64 n) || (eqb (2 * remainder v n) n && eqb (ofZ w64 (remZ (shrZ v n) (pos 2))) 0)
+
+  test : Test ≡ stays v n
+  test =
+      let e : toZ w64 n ≡ pos n = toZ-pos w64 (omega arith) in
+      let f = sfits-le (mag-rem (shrZ v n) (pos 2)) quotient-fits in
+      rw (e, eqb-bits (remZ (shrZ v n) (pos 2)) (pos 0) f (sfits-of (lit< tt)), even-is (shrZ v n))
+
+  chosen : {t : Bool} → Test ≡ t → rounded v n ≡ cond t (shrZ v n) (shrZ v n +ℤ pos 1)
+  chosen e = rw (rounded-is v p, ← test, e)
+
+  rounded-fits : SFits w64 (rounded v n)
+  rounded-fits =
+      sfits-of
+      (rounded-size v p (2 ^ 63 - 1) (size-below v (n * (2 ^ 63 - 1)) (omega (arith, fits .sfits, p))) (omega (arith, fits .sfits, p)))
 
 cast-n : tie.Need-cast-n
 cast-n c = search needs
 
-div-q : tie.Need-div-q
-div-q c = rw (toZ-ofZ (c .fits .total), rows c) (divides _ (pos (c .args .rows)) (le-leb 1 _ (c .pre)) (c .fits .total))
+floored-requires : tie.Need-floored-requires
+floored-requires c κs = search needs
+
+remainder-requires : tie.Need-remainder-requires
+remainder-requires c κs = search needs
+
+mul-twice : tie.Need-mul-twice
+mul-twice c = rw (left c) (twice c)
 
 rem-if1 : tie.Need-rem-if1
-rem-if1 c = div-q c
+rem-if1 c = rw (quotient c) (divides _ (pos 2) refl (quotient-fits c))
 
--- where the remainder is negative, the quotient less one is the one rounded down
-one-less : (c : tie.Then1)
-    → back (quotZ (back (c .before .args .total)) (toZ w64 (c .before .args .rows))) -ℤ pos 1
-    ≡ shrZ (c .before .args .total) (c .before .args .rows)
-one-less c =
-    let f = c .before .fits .total in
-    let e = rw (toZ-ofZ f, rows (c .before), back-rest _ f) at (c .if1 .taken) in
-    rw (toZ-ofZ (div-q (c .before) .1), toZ-ofZ f, rows (c .before), -ℤ-one)
-    (sym (down-less (c .before .args .total) (c .before .pre) e))
+next : (c : tie.Else1) → rounded (v (c .before)) (n (c .before)) ≡ shrZ (v (c .before)) (n (c .before)) +ℤ pos 1
+next c = chosen (c .before) (rw (quotient (c .before), left (c .before), toZ-ofZ (twice (c .before))) at (c .if1 .left))
+
+add-result : tie.Need-add-result
+add-result c = rw (quotient (c .before), ← next c) (rounded-fits (c .before))
 
 returns : tie.Need-returns
-unfolding rounded floored
-returns c = rw (one-less c) (toZ-ofZ (sfits-le (mag-shr (c .before .args .total) (c .before .args .rows)) (c .before .fits .total)))
+returns c =
+    let e : Test (c .before) ≡ true = rw (quotient (c .before), left (c .before), toZ-ofZ (twice (c .before))) at (c .if1 .taken) in
+    rw (quotient (c .before), chosen (c .before) e)
 
 returns-2 : tie.Need-returns-2
-unfolding rounded floored
-returns-2 c =
-    let f = c .before .fits .total in
-    let e = rw (toZ-ofZ f, rows (c .before), back-rest _ f) at (c .if1 .left) in
-    rw (toZ-ofZ (div-q (c .before) .1), toZ-ofZ f, rows (c .before), ← down-same (c .before .args .total) (c .before .pre) e)
-
-sub-result : tie.Need-sub-result
-sub-result c = rw (one-less c) (sfits-le (mag-shr (c .before .args .total) (c .before .args .rows)) (c .before .fits .total))
+returns-2 c = rw (quotient (c .before), ← next c) (toZ-ofZ (rounded-fits (c .before)))
 
 pub rounded-spec : {M : Type 1} → statement M
-rounded-spec = tie.close (tie.spec cast-n div-q rem-if1 sub-result returns returns-2)
+rounded-spec = tie.close (tie.spec cast-n floored-requires remainder-requires mul-twice rem-if1 add-result returns returns-2)
