@@ -1,18 +1,19 @@
 -- The order's laws, and how composition and discharge stand in it. Assumes nothing.
 use Prim.Native.Nat.{ℕ, _+_, _≤_, _<_, max}
 use mathlib.Core.Path.{_≡_, refl, sym, ap, ap₂, _∙_}
-use mathlib.Core.Bool.{Bool, true, false, cond, not, _&&_, _||_, false≢true, and-eq-true-iff}
+use mathlib.Core.Bool.{Bool, true, false, cond, not, _&&_, _||_, true≢false, false≢true, and-eq-true-iff}
 use native.Mathlib.Nat.{le-refl, le-trans, le-of-eq}
 use native.Mathlib.Omega.{arith}
 use lib.Bits.{bitAnd}
 use lib.Dec.{leb, lit<}
-use borrow.Author.Tests.{eqb-true, leb-true, le-leb}
+use borrow.Author.Tests.{eqb-true, leb-true, le-leb, not-true}
 use Rattle.label_composition.specs.Composition.{merged, digitsWith, transformsBoth, digitsBoth, aggregatesBoth, minimumBoth, noiseBoth, composed}
 use Rattle.label_discharge.specs.Discharge.{isCut, forbidsT, forbidsA, forbidsN, allowsTransform, allowsAggregate, enoughSheets, dischargesA, allowsNoise, withoutT, withoutA, withoutN, afterT, afterA, afterN}
-use Rattle.label_words.specs.Word.{fieldAt, bitAt, hasH, hasT, hasA, hasN, transformsOf, digitsOf, minimumOf}
-use Rattle.label_laws.proofs.Laws.{fields, either-H, either-T, either-A, either-N, compose-comm, fields-T, fields-A, fields-N, stages-T, stages-A, stages-N}
+use Rattle.label_words.specs.Stages.{stageCount}
+use Rattle.label_words.specs.Word.{fieldAt, bitAt, hasH, hasT, hasA, hasN, transformsOf, digitsOf, aggregatesOf, minimumOf, noiseOf}
+use Rattle.label_laws.proofs.Laws.{fields, either-H, either-T, either-A, either-N, compose-comm, fields-T, fields-A, fields-N, stages-T, stages-A, stages-N, no-stage-clear}
 use Rattle.label_words.proofs.Packed.{bit-of-field, bit-and}
-use Rattle.label_laws.specs.Order.{AsStrict, Reflexive, Transitive, ClearBelow, AllowsLess, ComposedAbove, ComposedLeast, DischargeLowers}
+use Rattle.label_laws.specs.Order.{AsStrict, Reflexive, Transitive, ClearBelow, AllowsLess, ComposedAbove, ComposedLeast, DischargeLowers, ClearLeast, ForbidsLess, ComposedMonotone, DischargeMonotone}
 
 -- ---- the order
 
@@ -275,3 +276,115 @@ discharge-lowers label operation = (
   λ sheets. lowered-or-not (not (forbidsA label) && hasA label && dischargesA label operation sheets) (without-A label),
   lowered-or-not (not (forbidsN label) && hasN label && allowsNoise label) (without-N label),
 )
+
+-- ---- two labels in the order
+
+-- a stage that the stricter label lacks, the other lacks
+absent : (a b : Bool) → (a ≡ true → b ≡ true) → b ≡ false → a ≡ false
+absent true b f e = absurd (true≢false (sym (f refl) ∙ e))
+absent false b f e = refl
+
+pub clear-least : ClearLeast
+unfolding stageCount fieldAt
+clear-least a wf p =
+    no-stage-clear a wf
+    (rw (absent (hasH a) false (p .H) refl, absent (hasT a) false (p .T) refl, absent (hasA a) false (p .A) refl, absent (hasN a) false (p .N) refl))
+
+-- neither of two where neither of two others
+neither : (a b c d : Bool) → (c ≡ false → a ≡ false) → (d ≡ false → b ≡ false) → (c || d) ≡ false → (a || b) ≡ false
+neither a b true d f g e = absurd (true≢false e)
+neither a b false d f g e = rw (f refl, g e)
+
+pub forbids-less : ForbidsLess
+unfolding forbidsT forbidsA forbidsN
+forbids-less a b p =
+    let h = absent (hasH a) (hasH b) (p .H) in
+    let t = neither (hasH a) (hasT a) (hasH b) (hasT b) h (absent (hasT a) (hasT b) (p .T)) in
+    (h, t, neither (hasH a || hasT a) (hasA a) (hasH b || hasT b) (hasA b) t (absent (hasA a) (hasA b) (p .A)))
+
+pub composed-monotone : ComposedMonotone
+composed-monotone a b c d p q =
+    let above = composed-above c d in
+    composed-least a b (composed c d) (transitive a c (composed c d) p (above .0)) (transitive b d (composed c d) q (above .1))
+
+module _ (a b : ℕ) (p : AsStrict a b) where
+  -- what agrees with b in each stage of a is at least as strict as a too
+  agreeing : (c : ℕ) → hasH c ≡ hasH b
+      → (hasT a ≡ true → (hasT c ≡ hasT b) × (transformsOf c ≡ transformsOf b) × (digitsOf c ≡ digitsOf b))
+      → (hasA a ≡ true → (hasA c ≡ hasA b) × (aggregatesOf c ≡ aggregatesOf b) × (minimumOf c ≡ minimumOf b))
+      → (hasN a ≡ true → (hasN c ≡ hasN b) × (noiseOf c ≡ noiseOf b)) → AsStrict a c
+  agreeing c h t g n = record {
+    H = λ e. h ∙ p .H e;
+    T = λ e. t e .0 ∙ p .T e;
+    A = λ e. g e .0 ∙ p .A e;
+    N = λ e. n e .0 ∙ p .N e;
+    transforms = λ e i l f. p .transforms e i l (sym (same-bit c b 24 4 (t e .1) i l) ∙ f);
+    digits = λ e f. rw (t e .2) (p .digits e (sym (same-bit c b 24 4 (t e .1) 2 (lit< tt)) ∙ f));
+    aggregates = λ e i l f. p .aggregates e i l (sym (same-bit c b 16 5 (g e .1) i l) ∙ f);
+    minimum = λ e. rw (g e .2) (p .minimum e);
+    noise = λ e f. p .noise e (sym (same-bit c b 23 1 (n e .1) 0 (lit< tt)) ∙ f);
+  }
+
+  -- so is b without a stage that a lacks
+  below-T : hasT a ≡ false → AsStrict a (withoutT b)
+  below-T none =
+      let l = stages-T b in
+      let f = fields-T b in
+      agreeing (withoutT b) (l .H) (λ e. absurd (true≢false (sym e ∙ none))) (λ _. (l .A, f .aggregates, f .minimum)) (λ _. (l .N, f .noise))
+
+  below-A : hasA a ≡ false → AsStrict a (withoutA b)
+  below-A none =
+      let l = stages-A b in
+      let f = fields-A b in
+      agreeing (withoutA b) (l .H) (λ _. (l .T, f .transforms, f .digits)) (λ e. absurd (true≢false (sym e ∙ none))) (λ _. (l .N, f .noise))
+
+  below-N : hasN a ≡ false → AsStrict a (withoutN b)
+  below-N none =
+      let l = stages-N b in
+      let f = fields-N b in
+      agreeing (withoutN b) (l .H) (λ _. (l .T, f .transforms, f .digits)) (λ _. (l .A, f .aggregates, f .minimum))
+      (λ e. absurd (true≢false (sym e ∙ none)))
+
+-- One level for all three: its stage, which labels forbid and which allow the operation, and what is left without the stage.
+module _ (has forbids allows : ℕ → Bool) (without : ℕ → ℕ) where
+  abbrev after : ℕ → ℕ
+  after word = cond (not (forbids word) && has word && allows word) (without word) word
+
+  -- a label that does not forbid the operation, and allows it where it has the stage, is left without the stage
+  taken-off : (word : ℕ) → has (without word) ≡ false → forbids word ≡ false → (has word ≡ true → allows word ≡ true) → has (after word) ≡ false
+  taken-off word off free allowed = go (has word) refl
+    where
+      go : (h : Bool) → has word ≡ h → has (cond (not (forbids word) && h && allows word) (without word) word) ≡ false
+      go true e = rw (free, allowed e) off
+      go false e = rw free e
+
+  -- so where the stricter of two labels is discharged, the other is left without the stage
+  level-monotone : ((word : ℕ) → AsStrict (without word) word) → ((word : ℕ) → has (without word) ≡ false)
+      → ((a b : ℕ) → AsStrict a b → has a ≡ false → AsStrict a (without b))
+      → (a b : ℕ) → AsStrict a b → (forbids b ≡ false → forbids a ≡ false) → (has a ≡ true → allows b ≡ true → allows a ≡ true)
+      → AsStrict (after a) (after b)
+  level-monotone lowers off below a b p free allowed = go (not (forbids b) && has b && allows b) refl
+    where
+      left : AsStrict (after a) b
+      left = transitive (after a) a b (lowered-or-not (not (forbids a) && has a && allows a) (lowers a)) p
+
+      go : (d : Bool) → (not (forbids b) && has b && allows b) ≡ d → AsStrict (after a) (cond d (without b) b)
+      go true e =
+          let s = and-eq-true-iff (not (forbids b) && has b) (allows b) .0 e in
+          let f = not-true (forbids b) (and-eq-true-iff (not (forbids b)) (has b) .0 (s .0) .0) in
+          below (after a) b left (taken-off a (off a) (free f) (λ h. allowed h (s .1)))
+      go false e = left
+
+pub discharge-monotone : DischargeMonotone
+unfolding afterT afterA afterN
+discharge-monotone a b p =
+    let free = forbids-less a b p in
+    let allowed = allows-less a b p in (
+      λ operation digits h.
+          level-monotone hasT forbidsT (λ word. allowsTransform word operation digits) withoutT without-T (λ word. stages-T word .T) below-T a b p
+          (free .0) (λ t. allowed .0 t operation digits h),
+      λ operation sheets h.
+          level-monotone hasA forbidsA (λ word. dischargesA word operation sheets) withoutA without-A (λ word. stages-A word .A) below-A a b p
+          (free .1) (λ t. allowed .1 t operation sheets h),
+      level-monotone hasN forbidsN allowsNoise withoutN without-N (λ word. stages-N word .N) below-N a b p (free .2) (allowed .2),
+    )

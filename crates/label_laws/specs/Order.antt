@@ -1,9 +1,10 @@
 -- An order on labels. The propositions below it are theorems, each proved: they tie the order to the label rules.
 use Prim.Native.Nat.{ℕ, _+_, _≤_, _<_}
 use mathlib.Core.Path.{_≡_}
-use mathlib.Core.Bool.{true}
+use mathlib.Core.Bool.{true, false}
 use Rattle.label_composition.specs.Composition.{composed}
-use Rattle.label_discharge.specs.Discharge.{allowsTransform, dischargesA, allowsNoise, afterT, afterA, afterN}
+use Rattle.label_discharge.specs.Discharge.{allowsTransform, dischargesA, allowsNoise, forbidsT, forbidsA, forbidsN, afterT, afterA, afterN}
+use Rattle.label_words.specs.WellFormed.{wellFormed}
 use Rattle.label_words.specs.Word.{bitAt, hasH, hasT, hasA, hasN, digitsOf, minimumOf}
 
 -- b is at least as strict as a: every stage of a is a stage of b, and in each stage of a, b allows no operation that a does not, has no smaller
@@ -48,3 +49,22 @@ abbrev pub DischargeLowers : Type 0
 DischargeLowers = (label operation : ℕ)
     → ((digits : ℕ) → AsStrict (afterT label operation digits) label) × ((sheets : ℕ) → AsStrict (afterA label operation sheets) label)
     × AsStrict (afterN label) label
+
+-- a label that is no stricter than a clear one is clear
+abbrev pub ClearLeast : Type 0
+ClearLeast = (a : ℕ) → wellFormed a ≡ true → AsStrict a 0 → a ≡ 0
+
+-- what is not forbidden on a label is not forbidden on one that is less strict
+abbrev pub ForbidsLess : Type 0
+ForbidsLess = (a b : ℕ) → AsStrict a b
+    → (forbidsT b ≡ false → forbidsT a ≡ false) × (forbidsA b ≡ false → forbidsA a ≡ false) × (forbidsN b ≡ false → forbidsN a ≡ false)
+
+-- composition of stricter labels is stricter, and so is what discharge leaves of a stricter label
+abbrev pub ComposedMonotone : Type 0
+ComposedMonotone = (a b c d : ℕ) → AsStrict a c → AsStrict b d → AsStrict (composed a b) (composed c d)
+
+abbrev pub DischargeMonotone : Type 0
+DischargeMonotone = (a b : ℕ) → AsStrict a b
+    → ((operation digits : ℕ) → operation < 4 → AsStrict (afterT a operation digits) (afterT b operation digits))
+    × ((operation sheets : ℕ) → operation < 5 → AsStrict (afterA a operation sheets) (afterA b operation sheets))
+    × AsStrict (afterN a) (afterN b)

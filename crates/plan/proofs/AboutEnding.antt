@@ -55,7 +55,7 @@ trace-length plan supply =
 -- ---- what is released, and which check refuses
 
 -- an evaluation that releases went on, and one that refuses at another step too
-released : (v : Verdict) (number : ℕ) (result : Result) (table : Table) → ending v number result .outcome ≡ release table → (v ≡ fine) × (result .outcome ≡ release table)
+pub released : (v : Verdict) (number : ℕ) (result : Result) (table : Table) → ending v number result .outcome ≡ release table → (v ≡ fine) × (result .outcome ≡ release table)
 released fine number result table e = (refl, e)
 released (refused n row column) number result table e = absurd (not-refused (sym e))
 

@@ -8,7 +8,7 @@ pub mod AboutRefusals
 pub mod AboutRows
 pub mod AboutTrace
 mod Bools
-mod Pairs
+pub mod Pairs
 pub mod SecrecyProof
 pub mod SenseEach
 pub mod SenseEnd
@@ -18,10 +18,10 @@ pub mod SenseLocked
 pub mod SenseNoise
 pub mod SenseShape
 pub mod ExamplesProof
-mod LockedLaws
-mod Alike
+pub mod LockedLaws
+pub mod Alike
 mod AlikeApply
-mod AlikeFilter
+pub mod AlikeFilter
 mod AlikeGroup
 mod AlikeJoin
 mod AlikeKeep

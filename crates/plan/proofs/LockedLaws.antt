@@ -40,7 +40,7 @@ pub record Open (plan : List Step) (label : ℕ) : Type 0 where
   pub A : hasA label ≡ true → anyStep (groupsAt label) plan ≡ true
   pub N : hasN label ≡ true → (allowsNoise label ≡ true) × (anyStep isNoise plan ≡ true)
 
-and-not : (a b : Bool) → (a && not b) ≡ false → a ≡ true → b ≡ true
+pub and-not : (a b : Bool) → (a && not b) ≡ false → a ≡ true → b ≡ true
 and-not true true e t = refl
 and-not true false e t = sym e
 and-not false b e t = absurd (clash t refl)
@@ -50,7 +50,7 @@ absent : (a b : Bool) → (a ≡ true → b ≡ true) → b ≡ false → a ≡ 
 absent true b f e = absurd (clash (f refl) e)
 absent false b f e = refl
 
-not-and : (a b : Bool) → (a ≡ true → b ≡ true) → (a && not b) ≡ false
+pub not-and : (a b : Bool) → (a ≡ true → b ≡ true) → (a && not b) ≡ false
 not-and true b f = ap not (f refl)
 not-and false b f = refl
 

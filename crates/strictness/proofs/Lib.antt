@@ -1,0 +1,4 @@
+-- The proof of the theorem in specs/.
+mod Checks
+mod Made
+pub mod AboutStrictness
