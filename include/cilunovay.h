@@ -3,15 +3,15 @@
  * Links with libcilunovay.a (`rt staticlib cilunovay`), for x86-64 Linux.
  *
  * cilunovay_run and cilunovay_check are proved to do what stands above them below,
- * for every container and every length, and to return. Not proved, but seen in the
- * archive: they call only memcpy and memset and keep nothing between calls, so
- * that several threads may call them at once, each with slices of its own.
+ * for every container, all overlays and every length, and to return. Not proved, but
+ * seen in the archive: they call only memcpy and memset and keep nothing between
+ * calls, so that several threads may call them at once, each with slices of its own.
  *
  * Each slice is lent as a pointer and a number of elements. The caller owes, and
  * nothing tests: a pointer is not null, also where the number is 0, is aligned
- * for its type, and points to that many elements; no slice overlaps another; and
- * until the call returns nobody else writes the container or the draws or touches
- * the other slices.
+ * for its type, and points to that many elements; no slice that is lent for writing
+ * overlaps another; and until the call returns nobody else writes the container, the
+ * draws or the overlays or touches the other slices.
  */
 #ifndef CILUNOVAY_H
 #define CILUNOVAY_H
@@ -36,8 +36,14 @@
 /* No plan uses more draws than these: at most 63 steps NOISE, of 256 rows each. */
 #define CILUNOVAY_DRAWS 16128
 
-/* The numbers that both of these return and write to answer[0]; docs/REFUSALS.md
- * says what causes each and what to do. */
+/* How many overlays a run is lent, and the longest one, in bytes. A longer slice is
+ * refused with 21. */
+#define CILUNOVAY_OVERLAYS 4
+#define CILUNOVAY_OVERLAY 65536
+
+/* The numbers that cilunovay_run returns and writes to answer[0], and of these 0, 1
+ * and 11 to 20 cilunovay_check too; docs/REFUSALS.md says what causes each and what
+ * to do. */
 #define CILUNOVAY_RELEASED 0 /* cilunovay_check: accepted */
 
 /* A slice lent for writing is too short, other than that of the text. */
@@ -54,6 +60,10 @@
 #define CILUNOVAY_BAD_TABLES 18    /* too few tables for a step, or too many */
 #define CILUNOVAY_BAD_COLUMNS 19   /* a table or a column that is not there */
 #define CILUNOVAY_BAD_SHEETS 20    /* a table's column of sheet numbers */
+
+/* Refused because of an overlay; the place is a byte offset in that overlay. */
+#define CILUNOVAY_BAD_OVERLAY 21       /* its length, count or directory, or one of its parts */
+#define CILUNOVAY_BAD_OVERLAY_LABEL 22 /* an ill-formed label, or one on a sheet number */
 
 /* Refused because of the state; the place is step, row and column. */
 #define CILUNOVAY_NOT_CLEAR 31         /* a FILTER operand, JOIN key or GROUP key has a label */
@@ -80,7 +90,8 @@ extern "C" {
  *                               many bytes
  *   1, 0, 0, 0                  values, labels, marks, output or trace is too short;
  *                               this is tested before the container is read
- *   11 to 20, offset, 0, 0      refused because of the input
+ *   11 to 20, offset, 0, 0      refused because of the container
+ *   21 or 22, offset, 0, 0      refused because of an overlay
  *   31 to 37, step, row, column refused because of the state
  *   51, steps, 0, 0             refused because text is shorter than the table's
  *                               text; this is tested last, where the table would
@@ -101,10 +112,23 @@ extern "C" {
  * finds none left. How they are distributed is the caller's care, and so is that none
  * is used twice: docs/DRAWS.md.
  *
+ * The overlays are labels for the cells of the container's tables, delivered apart
+ * from them: docs/CONTAINER.md has the layout. They are composed onto the tables'
+ * labels before step 0, and values and marks stay as they are; so each can ask for
+ * more than the tables do and for no less, and their order makes no difference. An
+ * empty slice, in any of the four places, is no overlay. A run only reads them. 1 does
+ * not test them. They are checked after the whole container, one after the other, and
+ * which one is refused is not said. The place of 21 is 0 where the overlay is too long,
+ * too short for its directory or has a count other than the number of tables; or the
+ * first pair of its directory that is wrong, and the last one where only the end is; or
+ * the part that has another length than its table asks for, or another header than its
+ * table. The place of 22, which comes after every 21 of the same overlay, is the label:
+ * one that is ill-formed, or not zero in a column of sheet numbers.
+ *
  * Values, labels and marks are work memory: the cells of the tables that steps make,
  * and for each row its mark, which says of which ballot sheet it is.
  *
- * After 1 and after 11 to 20 nothing else has changed. After a release, 31 to 37 and
+ * After 1 and after 11 to 22 nothing else has changed. After a release, 31 to 37 and
  * 51, trace begins with four numbers for each finished step (kind, rows, columns,
  * stages left; after a release, 35, 36 and 51 every step is finished, and
  * cilunovay_finished below says how many there are), and the first CILUNOVAY_WORK
@@ -123,6 +147,10 @@ extern "C" {
  */
 uint32_t cilunovay_run(const uint8_t *container, size_t container_length,
                        const int64_t *draws, size_t draws_length,
+                       const uint8_t *overlay_0, size_t overlay_0_length,
+                       const uint8_t *overlay_1, size_t overlay_1_length,
+                       const uint8_t *overlay_2, size_t overlay_2_length,
+                       const uint8_t *overlay_3, size_t overlay_3_length,
                        int64_t *values, size_t values_length,
                        uint32_t *labels, size_t labels_length,
                        uint64_t *marks, size_t marks_length,
@@ -137,7 +165,7 @@ uint32_t cilunovay_run(const uint8_t *container, size_t container_length,
  * container and the answer of that call, of at least CILUNOVAY_ANSWER elements.
  * After 31 to 37 and after 51 it is the step of the answer; after a release every
  * step of the plan, whose length in bytes, at most 1,024, the container has at its
- * bytes 6 and 7; after 1 and 11 to 20 it is 0. This function is tested and not
+ * bytes 6 and 7; after 1 and 11 to 22 it is 0. This function is tested and not
  * proved.
  */
 static inline size_t cilunovay_finished(const uint8_t *container, const uint64_t *answer)
@@ -147,10 +175,11 @@ static inline size_t cilunovay_finished(const uint8_t *container, const uint64_t
     return answer[0] >= CILUNOVAY_NOT_CLEAR ? (size_t)answer[1] : 0;
 }
 
-/* The input checks of cilunovay_run alone. Writes two numbers to the start of
- * answer and returns the first: 0, 0 where the container is accepted, else 11 to
- * 20 and the offset. The rest of answer is as it was. Where answer has fewer than
- * CILUNOVAY_CHECK_ANSWER elements it is left as it was, and 1 is returned.
+/* The checks of a container alone, those of cilunovay_run before its overlays. Writes
+ * two numbers to the start of answer and returns the first: 0, 0 where the container
+ * is accepted, else 11 to 20 and the offset. The rest of answer is as it was. Where
+ * answer has fewer than CILUNOVAY_CHECK_ANSWER elements it is left as it was, and 1 is
+ * returned.
  */
 uint32_t cilunovay_check(const uint8_t *container, size_t container_length,
                          uint64_t *answer, size_t answer_length);

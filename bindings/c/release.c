@@ -7,6 +7,7 @@
  *     release --csv FILE > tally.csv
  *     release --draws DRAWS < CONTAINER
  *     release --draws DRAWS --csv FILE > tally.csv
+ *     release --overlay OVERLAY --overlay OVERLAY FILE
  *
  * Prints a line for each finished step, then the released rows or the refusal.
  * Given files, it prints the name of each before its lines.
@@ -18,9 +19,13 @@
  * values: one to a line, each from -2^63 to 2^63 - 1, in at most 19 decimal digits.
  * Without it there are none.
  *
- * Both stand before the file, in either order, and with either there is one container
- * at most: draws are never used twice. A word that begins with -- is no file; ./--name
- * is one.
+ * With --overlay, up to four times, the labels of the file OVERLAY are composed onto
+ * those of the container's tables, and so the release asks for more. An empty file is
+ * no overlay.
+ *
+ * The options stand before the file, in any order, and with any of them there is one
+ * container at most: draws are never used twice, and an overlay is made for its
+ * container. A word that begins with -- is no file; ./--name is one.
  *
  * Exit status: 0 every container is released; 1 one is refused; 2 something could
  * not be read or written, or the words are wrong, and then nothing that was printed
@@ -37,10 +42,13 @@
 
 enum { RELEASED = 0, REFUSED = 1, BROKEN = 2 };
 
-/* One byte more than the longest container, so that a longer one is refused. */
+/* One byte more than the longest container and the longest overlay, so that a longer
+ * one is refused. */
 static uint8_t container[CILUNOVAY_CONTAINER + 1];
 static int64_t draws[CILUNOVAY_DRAWS]; /* no plan uses more */
 static size_t draws_length;
+static uint8_t overlays[CILUNOVAY_OVERLAYS][CILUNOVAY_OVERLAY + 1];
+static size_t overlay_lengths[CILUNOVAY_OVERLAYS]; /* 0 where there is none */
 static int64_t values[CILUNOVAY_WORK];
 static uint32_t labels[CILUNOVAY_WORK];
 static uint64_t marks[CILUNOVAY_MARKS];
@@ -59,7 +67,7 @@ static void fail(const char *name)
 /* Ends the program where the words are wrong. */
 static void misused(void)
 {
-    fprintf(stderr, "usage: release [FILE..], or release [--csv] [--draws DRAWS] [FILE]\n");
+    fprintf(stderr, "usage: release [FILE..], or release [--csv] [--draws DRAWS] [--overlay OVERLAY].. [FILE]\n");
     exit(BROKEN);
 }
 
@@ -83,7 +91,7 @@ static void print_rows(uint64_t rows, uint64_t columns)
 
 static void print_refusal(FILE *file, uint32_t number, const uint64_t *place)
 {
-    if (number >= CILUNOVAY_BAD_CONTAINER && number <= CILUNOVAY_BAD_SHEETS)
+    if (number >= CILUNOVAY_BAD_CONTAINER && number <= CILUNOVAY_BAD_OVERLAY_LABEL)
         fprintf(file, "X %" PRIu32 " %" PRIu64 "\n", number, place[0]);
     else
         fprintf(file, "X %" PRIu32 " %" PRIu64 " %" PRIu64 " %" PRIu64 "\n", number, place[0], place[1], place[2]);
@@ -92,9 +100,10 @@ static void print_refusal(FILE *file, uint32_t number, const uint64_t *place)
 /* Runs the container that was read; the answer begins with the number. */
 static uint32_t run(size_t length)
 {
-    return cilunovay_run(container, length, draws, draws_length, values, CILUNOVAY_WORK, labels, CILUNOVAY_WORK, marks,
-                         CILUNOVAY_MARKS, output, CILUNOVAY_OUTPUT, trace, CILUNOVAY_TRACE, text, CILUNOVAY_TEXT, answer,
-                         CILUNOVAY_ANSWER);
+    return cilunovay_run(container, length, draws, draws_length, overlays[0], overlay_lengths[0], overlays[1],
+                         overlay_lengths[1], overlays[2], overlay_lengths[2], overlays[3], overlay_lengths[3], values,
+                         CILUNOVAY_WORK, labels, CILUNOVAY_WORK, marks, CILUNOVAY_MARKS, output, CILUNOVAY_OUTPUT, trace,
+                         CILUNOVAY_TRACE, text, CILUNOVAY_TEXT, answer, CILUNOVAY_ANSWER);
 }
 
 /* Runs the container that was read, and prints what the monitor answers. */
@@ -124,9 +133,10 @@ static int print_text(size_t length)
     return REFUSED;
 }
 
-static size_t read_whole(FILE *file, const char *name)
+/* Reads a file into memory of this size; what lies past that is not read. */
+static size_t read_whole(FILE *file, const char *name, uint8_t *bytes, size_t size)
 {
-    size_t length = fread(container, 1, sizeof container, file);
+    size_t length = fread(bytes, 1, size, file);
 
     if (ferror(file))
         fail(name);
@@ -142,10 +152,10 @@ static FILE *opened(const char *name)
     return file;
 }
 
-static size_t read_file(const char *name)
+static size_t read_file(const char *name, uint8_t *bytes, size_t size)
 {
     FILE *file = opened(name);
-    size_t length = read_whole(file, name);
+    size_t length = read_whole(file, name, bytes, size);
 
     fclose(file);
     return length;
@@ -197,44 +207,57 @@ static int is_option(const char *word)
     return strncmp(word, "--", 2) == 0;
 }
 
+/* What the options say. */
+struct options {
+    int csv;
+    const char *draws;
+    int overlay_count;
+    const char *overlays[CILUNOVAY_OVERLAYS];
+};
+
 /* Takes the options, and answers where the files begin. */
-static int take_options(int count, char **words, int *csv, const char **draws_name)
+static int take_options(int count, char **words, struct options *taken)
 {
     int first = 1;
 
-    for (; first < count && is_option(words[first]); first++)
-        if (strcmp(words[first], "--csv") == 0 && !*csv)
-            *csv = 1;
-        else if (strcmp(words[first], "--draws") == 0 && *draws_name == NULL && first + 1 < count
-                 && !is_option(words[first + 1]))
-            *draws_name = words[++first];
+    for (; first < count && is_option(words[first]); first++) {
+        int named = first + 1 < count && !is_option(words[first + 1]);
+
+        if (strcmp(words[first], "--csv") == 0 && !taken->csv)
+            taken->csv = 1;
+        else if (strcmp(words[first], "--draws") == 0 && taken->draws == NULL && named)
+            taken->draws = words[++first];
+        else if (strcmp(words[first], "--overlay") == 0 && taken->overlay_count < CILUNOVAY_OVERLAYS && named)
+            taken->overlays[taken->overlay_count++] = words[++first];
         else
             misused();
+    }
     for (int i = first; i < count; i++)
         if (is_option(words[i]))
             misused();
-    if ((*csv || *draws_name != NULL) && count > first + 1)
+    if (first > 1 && count > first + 1)
         misused();
     return first;
 }
 
 int main(int count, char **words)
 {
-    int csv = 0, status = RELEASED;
-    const char *draws_name = NULL;
-    int first = take_options(count, words, &csv, &draws_name);
-    int (*print)(size_t) = csv ? print_text : print_run;
+    struct options taken = {0};
+    int first = take_options(count, words, &taken), status = RELEASED;
+    int (*print)(size_t) = taken.csv ? print_text : print_run;
 
     /* A reader that has gone away is an output that cannot be written. */
     signal(SIGPIPE, SIG_IGN);
-    if (draws_name != NULL)
-        read_draws(draws_name);
+    if (taken.draws != NULL)
+        read_draws(taken.draws);
+    for (int i = 0; i < taken.overlay_count; i++)
+        overlay_lengths[i] = read_file(taken.overlays[i], overlays[i], sizeof overlays[i]);
     if (first == count)
-        status = print(read_whole(stdin, "standard input"));
+        status = print(read_whole(stdin, "standard input", container, sizeof container));
     for (int i = first; i < count; i++) {
-        size_t length = read_file(words[i]);
+        size_t length = read_file(words[i], container, sizeof container);
 
-        if (!csv)
+        if (!taken.csv)
             printf("%s\n", words[i]);
         if (print(length) == REFUSED)
             status = REFUSED;

@@ -13,8 +13,9 @@
 //! `mod cilunovay;`.
 //!
 //! [`Monitor::run`] evaluates a container with a list of draws, which is empty for a
-//! plan without NOISE; [`check`] does the input checks alone. Both answer for every
-//! slice of bytes. Rows, columns, steps and byte offsets count from 0.
+//! plan without NOISE, and [`Monitor::run_with_overlays`] with labels that were
+//! delivered apart as well; [`check`] does the checks of a container alone. All answer
+//! for every slice of bytes. Rows, columns, steps and byte offsets count from 0.
 
 // A program may use a part of this file.
 #![allow(dead_code)]
@@ -30,6 +31,12 @@ pub const LONGEST_TEXT: usize = 35_097;
 /// No plan uses more draws: at most 63 steps NOISE, of 256 rows each.
 pub const MOST_DRAWS: usize = 16_128;
 
+/// How many overlays a run may have.
+pub const MOST_OVERLAYS: usize = 4;
+
+/// The longest overlay, in bytes. A longer one is refused.
+pub const LONGEST_OVERLAY: usize = 65_536;
+
 const WORK: usize = 8_192;
 const MARKS: usize = 1_024;
 const OUTPUT: usize = 2_048;
@@ -43,6 +50,14 @@ unsafe extern "C" {
         container_length: usize,
         draws: *const i64,
         draws_length: usize,
+        overlay_0: *const u8,
+        overlay_0_length: usize,
+        overlay_1: *const u8,
+        overlay_1_length: usize,
+        overlay_2: *const u8,
+        overlay_2_length: usize,
+        overlay_3: *const u8,
+        overlay_3_length: usize,
         values: *mut i64,
         values_length: usize,
         labels: *mut u32,
@@ -153,7 +168,7 @@ impl IntoIterator for Release {
     }
 }
 
-/// What is wrong with a container.
+/// What is wrong with a container, or with an overlay.
 #[derive(Clone, Copy, PartialEq, Eq, Hash, Debug)]
 pub enum InputFault {
     /// 11: its length, or the part count.
@@ -176,10 +191,14 @@ pub enum InputFault {
     Columns,
     /// 20: a table's column of sheet numbers.
     Sheets,
+    /// 21: an overlay's length, count or directory, or one of its parts.
+    Overlay,
+    /// 22: a label of an overlay, ill-formed or on a sheet number.
+    OverlayLabel,
 }
 
 impl InputFault {
-    /// The number of documents 01 and 02, 11 to 20.
+    /// The number of documents 01 and 02, 11 to 22.
     pub fn number(self) -> u32 {
         self as u32 + 11
     }
@@ -196,7 +215,9 @@ impl InputFault {
             18 => InputFault::Tables,
             19 => InputFault::Columns,
             20 => InputFault::Sheets,
-            _ => unreachable!("the input is refused with 11 to 20"),
+            21 => InputFault::Overlay,
+            22 => InputFault::OverlayLabel,
+            _ => unreachable!("the input is refused with 11 to 22"),
         }
     }
 
@@ -217,6 +238,8 @@ impl InputFault {
             InputFault::Sheets => {
                 "a table's sheet numbers stand in none of its columns, or one is negative or not clear"
             }
+            InputFault::Overlay => "an overlay's length, count, directory or part does not fit the container",
+            InputFault::OverlayLabel => "a label of an overlay is ill-formed, or not zero on a sheet number",
         }
     }
 }
@@ -273,7 +296,8 @@ impl StateFault {
     }
 }
 
-/// A refusal because of the input. The place is a byte offset in the container.
+/// A refusal because of the input. The place is a byte offset in the container, and
+/// for 21 and 22 in the overlay; which overlay is not said.
 #[derive(Clone, Copy, PartialEq, Eq, Hash, Debug)]
 pub struct InputRefusal {
     pub fault: InputFault,
@@ -300,7 +324,7 @@ pub enum Refusal {
 }
 
 impl Refusal {
-    /// The number of documents 01 and 02: 11 to 20, or 31 to 37.
+    /// The number of documents 01 and 02: 11 to 22, or 31 to 37.
     pub fn number(&self) -> u32 {
         match self {
             Refusal::Input(refusal) => refusal.fault.number(),
@@ -320,7 +344,11 @@ impl Refusal {
 impl fmt::Display for InputRefusal {
     fn fmt(&self, f: &mut fmt::Formatter<'_>) -> fmt::Result {
         let InputRefusal { fault, offset } = self;
-        write!(f, "refused with {} at byte {offset}: {}", fault.number(), fault.meaning())
+        let of = match fault {
+            InputFault::Overlay | InputFault::OverlayLabel => " of an overlay",
+            _ => "",
+        };
+        write!(f, "refused with {} at byte {offset}{of}: {}", fault.number(), fault.meaning())
     }
 }
 
@@ -383,6 +411,21 @@ impl Monitor {
     /// left, the run is refused with 37. How they are distributed is the caller's care,
     /// and so is that no draw is used in two runs: docs/DRAWS.md.
     pub fn run(&mut self, container: &[u8], draws: &[i64]) -> Result<Release, Refusal> {
+        self.run_with_overlays(container, draws, [&[]; MOST_OVERLAYS])
+    }
+
+    /// The same after the overlays' labels are composed onto those of the container's
+    /// tables, so that the run asks for more. An empty slice, in any place, is no
+    /// overlay, and the order makes no difference. One that does not fit the container
+    /// is refused with 21, and a label that is ill-formed or stands on a sheet number
+    /// with 22, both after the checks of the container.
+    pub fn run_with_overlays(
+        &mut self,
+        container: &[u8],
+        draws: &[i64],
+        overlays: [&[u8]; MOST_OVERLAYS],
+    ) -> Result<Release, Refusal> {
+        let [overlay_0, overlay_1, overlay_2, overlay_3] = overlays;
         let mut answer = [0u64; 4];
         // Each pointer comes from a slice of the length given with it, and none that
         // is written to overlaps another.
@@ -392,6 +435,14 @@ impl Monitor {
                 container.len(),
                 draws.as_ptr(),
                 draws.len(),
+                overlay_0.as_ptr(),
+                overlay_0.len(),
+                overlay_1.as_ptr(),
+                overlay_1.len(),
+                overlay_2.as_ptr(),
+                overlay_2.len(),
+                overlay_3.as_ptr(),
+                overlay_3.len(),
                 self.values.as_mut_ptr(),
                 self.values.len(),
                 self.labels.as_mut_ptr(),
@@ -416,7 +467,7 @@ impl Monitor {
                 let trace = self.lines(plan_steps(container));
                 Ok(Release { rows: first, columns: second, values, text, trace })
             }
-            11..=20 => {
+            11..=22 => {
                 let fault = InputFault::from_number(number);
                 Err(Refusal::Input(InputRefusal { fault, offset: first }))
             }
@@ -457,7 +508,7 @@ fn plan_steps(container: &[u8]) -> usize {
     (usize::from(container[6]) + 256 * usize::from(container[7])) / 16
 }
 
-/// The input checks alone.
+/// The checks of a container alone, 11 to 20.
 pub fn check(container: &[u8]) -> Result<(), InputRefusal> {
     let mut answer = [0u64; 2];
     // Each pointer comes from a slice of the length given with it.

@@ -8,6 +8,7 @@
 //! release --csv FILE > tally.csv
 //! release --draws DRAWS < CONTAINER
 //! release --draws DRAWS --csv FILE > tally.csv
+//! release --overlay OVERLAY --overlay OVERLAY FILE
 //! ```
 //!
 //! Prints a line for each finished step, then the released rows or the refusal.
@@ -20,9 +21,13 @@
 //! values: one to a line, each from -2^63 to 2^63 - 1, in at most 19 decimal digits.
 //! Without it there are none.
 //!
-//! Both stand before the file, in either order, and with either there is one container
-//! at most: draws are never used twice. A word that begins with -- is no file; ./--name
-//! is one.
+//! With --overlay, up to four times, the labels of the file OVERLAY are composed onto
+//! those of the container's tables, and so the release asks for more. An empty file is
+//! no overlay.
+//!
+//! The options stand before the file, in any order, and with any of them there is one
+//! container at most: draws are never used twice, and an overlay is made for its
+//! container. A word that begins with -- is no file; ./--name is one.
 //!
 //! Exit status: 0 every container is released; 1 one is refused; 2 something could
 //! not be read or written, or the words are wrong, and then nothing that was printed
@@ -31,7 +36,8 @@
 
 mod cilunovay;
 
-use cilunovay::{Line, Monitor, Refusal, Release, LONGEST_CONTAINER, MOST_DRAWS};
+use cilunovay::{Line, Monitor, Refusal, Release};
+use cilunovay::{LONGEST_CONTAINER, LONGEST_OVERLAY, MOST_DRAWS, MOST_OVERLAYS};
 use std::ffi::{OsStr, OsString};
 use std::fs::File;
 use std::io::{self, BufRead, BufReader, Read, Write};
@@ -67,6 +73,7 @@ fn named(name: &str, error: io::Error) -> String {
 struct Words<'a> {
     csv: bool,
     draws: Option<&'a OsStr>,
+    overlays: Vec<&'a OsStr>,
     names: &'a [OsString],
 }
 
@@ -75,7 +82,7 @@ fn is_option(word: &OsString) -> bool {
 }
 
 fn options(words: &[OsString]) -> Option<Words<'_>> {
-    let mut taken = Words { csv: false, draws: None, names: words };
+    let mut taken = Words { csv: false, draws: None, overlays: Vec::new(), names: words };
     loop {
         taken.names = match taken.names {
             [word, rest @ ..] if word == "--csv" && !taken.csv => {
@@ -86,8 +93,14 @@ fn options(words: &[OsString]) -> Option<Words<'_>> {
                 taken.draws = Some(file);
                 rest
             }
+            [word, file, rest @ ..]
+                if word == "--overlay" && taken.overlays.len() < MOST_OVERLAYS && !is_option(file) =>
+            {
+                taken.overlays.push(file);
+                rest
+            }
             names => {
-                let alone = taken.csv || taken.draws.is_some();
+                let alone = names.len() < words.len();
                 let wrong = names.iter().any(is_option) || (alone && names.len() > 1);
                 return (!wrong).then_some(taken);
             }
@@ -98,27 +111,37 @@ fn options(words: &[OsString]) -> Option<Words<'_>> {
 /// Runs the container of standard input, or those of the files, and adds to the
 /// text what is to be printed.
 fn run(words: &[OsString], text: &mut Vec<u8>) -> Result<u8, String> {
-    let usage = "usage: release [FILE..], or release [--csv] [--draws DRAWS] [FILE]";
-    let Words { csv, draws, names } = options(words).ok_or(usage)?;
+    let usage = "usage: release [FILE..], or release [--csv] [--draws DRAWS] [--overlay OVERLAY].. [FILE]";
+    let Words { csv, draws, overlays, names } = options(words).ok_or(usage)?;
     let draws = draws.map_or(Ok(Vec::new()), read_draws)?;
+    let overlays = read_overlays(&overlays)?;
+    let overlays = overlays.each_ref().map(Vec::as_slice);
     let print = if csv { print_text } else { print_run };
     let mut monitor = Monitor::new();
     if names.is_empty() {
-        let container = read(io::stdin()).map_err(|error| named("standard input", error))?;
-        return Ok(print(monitor.run(&container, &draws), text));
+        let read = read(io::stdin(), LONGEST_CONTAINER);
+        let container = read.map_err(|error| named("standard input", error))?;
+        return Ok(print(monitor.run_with_overlays(&container, &draws, overlays), text));
     }
     let mut status = RELEASED;
     for name in names {
-        let container = File::open(name)
-            .and_then(read)
-            .map_err(|error| named(&name.to_string_lossy(), error))?;
+        let container = read_file(name, LONGEST_CONTAINER)?;
         if !csv {
             text.extend_from_slice(name.as_bytes());
             text.push(b'\n');
         }
-        status = status.max(print(monitor.run(&container, &draws), text));
+        status = status.max(print(monitor.run_with_overlays(&container, &draws, overlays), text));
     }
     Ok(status)
+}
+
+/// The overlays of these files; where there is none, no bytes.
+fn read_overlays(names: &[&OsStr]) -> Result<[Vec<u8>; MOST_OVERLAYS], String> {
+    let mut overlays: [Vec<u8>; MOST_OVERLAYS] = Default::default();
+    for (overlay, name) in overlays.iter_mut().zip(names) {
+        *overlay = read_file(name, LONGEST_OVERLAY)?;
+    }
+    Ok(overlays)
 }
 
 /// The numbers of a file of draws; those that no plan can use are not kept.
@@ -149,12 +172,17 @@ fn number(word: &[u8]) -> Option<i64> {
     if fits { std::str::from_utf8(word).ok()?.parse().ok() } else { None }
 }
 
-/// At most one byte more than the longest container, so that a longer one is
+/// At most one byte more than the longest that is accepted, so that a longer one is
 /// refused.
-fn read(source: impl Read) -> io::Result<Vec<u8>> {
+fn read(source: impl Read, longest: usize) -> io::Result<Vec<u8>> {
     let mut bytes = Vec::new();
-    source.take(LONGEST_CONTAINER as u64 + 1).read_to_end(&mut bytes)?;
+    source.take(longest as u64 + 1).read_to_end(&mut bytes)?;
     Ok(bytes)
+}
+
+fn read_file(name: &OsStr, longest: usize) -> Result<Vec<u8>, String> {
+    let file = File::open(name).and_then(|file| read(file, longest));
+    file.map_err(|error| named(&name.to_string_lossy(), error))
 }
 
 fn print_run(answer: Result<Release, Refusal>, text: &mut Vec<u8>) -> u8 {

@@ -1,8 +1,8 @@
 //! What is measured: one plan for each kind of step, a mixed one, GROUP by numbers
-//! of sheets, and releases of small and of the widest values as text, each with
-//! the same query in SQL.
+//! of sheets, a full container with overlays, and releases of small and of the
+//! widest values as text, each with the same query in SQL.
 
-use crate::draft::{step, Draft, RawStep, RawTable};
+use crate::draft::{step, Draft, RawOverlay, RawStep, RawTable};
 use crate::reference::value::LOWEST;
 use crate::rng::Rng;
 
@@ -17,7 +17,7 @@ const SUM: u32 = 0x2003_0001;
 
 /// Rows of the largest table.
 pub const SIZES: [usize; 3] = [16, 64, 256];
-/// Rows of the tables with sheet numbers.
+/// Rows of the tables with sheet numbers, and of those that fill a container.
 pub const FULL: [usize; 1] = [256];
 
 pub static CASES: [Case; 10] = [
@@ -89,37 +89,7 @@ pub static CASES: [Case; 10] = [
             (draft(vec![table(8, rows, 0, 0)], &steps), sql.into())
         },
     },
-    Case {
-        name: "mixed",
-        // The largest fills the container: 256, 256 and 168 rows of 8 columns.
-        make: |rows| {
-            let third = table(8, rows * 168 / 256, 0, 0);
-            let tables =
-                vec![table(8, rows, 0, CUT_THEN_SUM), table(8, rows, 1, CUT_THEN_SUM), third];
-            let steps = [
-                scan(0),
-                step(4, 1, 2, 0, 0, 50),
-                scan(1),
-                step(4, 1, 5, 0, 0, 50),
-                step(2, 0, 0, 0, 0, 0),
-                step(5, 0b0000_1111, 0, 0, 0, 0),
-                step(6, 2, 2, 0, 0, 3),
-                scan(2),
-                step(5, 0b0000_1001, 0, 0, 0, 0),
-                step(3, 0, 0, 0, 0, 0),
-                // The cut value, and the key from table 2.
-                step(5, 0b0011_0000, 0, 0, 0, 0),
-                step(7, 2, 1, 0, 0, 0),
-            ];
-            let sql = "SELECT k, sum(v) FROM (
-                SELECT u.c2 / 1000 AS v, t2.c3 AS k FROM (
-                    SELECT c0, c2 FROM t0 WHERE c1 < 50
-                    UNION ALL SELECT c0, c2 FROM t1 WHERE c1 >= 50) AS u
-                JOIN t2 ON u.c0 = t2.c0)
-                GROUP BY k";
-            (draft(tables, &steps), sql.into())
-        },
-    },
+    Case { name: "mixed", make: mixed },
 ];
 
 /// GROUP by many keys, by few and by one, over rows that come from all different
@@ -138,6 +108,13 @@ pub static SHEETS: [Case; 12] = [
     Case { name: "1 key, shuffled", make: |rows| on_sheets(rows, 1, Order::Shuffled) },
     Case { name: "1 key, the same", make: |rows| on_sheets(rows, 1, Order::Same) },
     Case { name: "1 key, twice", make: |rows| on_sheets(rows, 1, Order::Twice) },
+];
+
+/// The largest mixed container with none, with one and with four overlays.
+pub static OVERLAYS: [Case; 3] = [
+    Case { name: "overlays, none", make: |rows| under_overlays(rows, 0) },
+    Case { name: "overlays, one", make: |rows| under_overlays(rows, 1) },
+    Case { name: "overlays, four", make: |rows| under_overlays(rows, 4) },
 ];
 
 /// A table of 8 columns as it is; SQLite makes its text as well.
@@ -163,7 +140,58 @@ fn scan(table: u8) -> RawStep {
 }
 
 fn draft(tables: Vec<RawTable>, steps: &[RawStep]) -> Draft {
-    Draft { tables, steps: steps.to_vec(), draws: Vec::new() }
+    let overlays = Default::default();
+    Draft { tables, steps: steps.to_vec(), draws: Vec::new(), overlays }
+}
+
+/// Most kinds of steps. The largest fills the container: 256, 256 and 168 rows of 8
+/// columns.
+fn mixed(rows: usize) -> (Draft, String) {
+    let third = table(8, rows * 168 / 256, 0, 0);
+    let tables = vec![table(8, rows, 0, CUT_THEN_SUM), table(8, rows, 1, CUT_THEN_SUM), third];
+    let steps = [
+        scan(0),
+        step(4, 1, 2, 0, 0, 50),
+        scan(1),
+        step(4, 1, 5, 0, 0, 50),
+        step(2, 0, 0, 0, 0, 0),
+        step(5, 0b0000_1111, 0, 0, 0, 0),
+        step(6, 2, 2, 0, 0, 3),
+        scan(2),
+        step(5, 0b0000_1001, 0, 0, 0, 0),
+        step(3, 0, 0, 0, 0, 0),
+        // The cut value, and the key from table 2.
+        step(5, 0b0011_0000, 0, 0, 0, 0),
+        step(7, 2, 1, 0, 0, 0),
+    ];
+    let sql = "SELECT k, sum(v) FROM (
+        SELECT u.c2 / 1000 AS v, t2.c3 AS k FROM (
+            SELECT c0, c2 FROM t0 WHERE c1 < 50
+            UNION ALL SELECT c0, c2 FROM t1 WHERE c1 >= 50) AS u
+        JOIN t2 ON u.c0 = t2.c0)
+        GROUP BY k";
+    (draft(tables, &steps), sql.into())
+}
+
+/// The mixed plan, which is released under each of the overlays: they raise the
+/// minimum of the values that are summed and take count away, and label all columns
+/// that the plan drops, each with other stages.
+fn under_overlays(rows: usize, count: usize) -> (Draft, String) {
+    let (mut draft, sql) = mixed(rows);
+    let overlay = |number: usize| -> RawOverlay {
+        let summed = 0x6402_0C02 + number as u32;
+        let dropped = [0x8000_0000, 0x4100_0000, 0x2011_0014, 0x1080_0000][number];
+        let label = |cell: usize| match cell % 8 {
+            2 => summed,
+            4..=7 => dropped,
+            _ => 0,
+        };
+        draft.tables.iter().map(|table| (0..table.cells.len()).map(label).collect()).collect()
+    };
+    let mut overlays = [0, 1, 2, 3].map(|number| Some(overlay(number)));
+    overlays[count..].fill(None);
+    draft.overlays = overlays;
+    (draft, sql)
 }
 
 /// Column 0: every key once, in an order of the table's own. Column 1: from 0

@@ -1,7 +1,7 @@
 //! The time of the product beside that of the reference implementation and of
 //! SQLite, for each kind of step, for a mixed plan, and for the text of small
-//! and of the widest values, at three sizes; and for GROUP over 256 rows by keys
-//! and sheets.
+//! and of the widest values, at three sizes; for GROUP over 256 rows by keys and
+//! sheets; and for a full container without overlays, with one and with four.
 //!
 //!     rustc -O --edition 2021 -o bench tests/bench/main.rs \
 //!         -L native=DIRECTORY -l static=LIBRARY          (and libsqlite3-dev)
@@ -13,11 +13,13 @@
 //! and text: a release has its text in every case, and there is no run without.
 //! SQLite runs a prepared statement with the relational part of the plan over
 //! tables already in memory, without labels, and every value of the result is
-//! read; the draws of NOISE are a table, joined by row number. It makes a text only in the cases of text, where each value is read as
-//! text as well: there all three do the same work, and in the other rows SQLite
-//! has rows to make where product and reference have rows and text. In the cases
-//! of sheets it counts the distinct ones of each group. The means of the three
-//! sorts of rows are printed apart. Times are the best of all runs.
+//! read; the draws of NOISE are a table, joined by row number. It makes a text only
+//! in the cases of text, where each value is read as text as well: there all three
+//! do the same work, and in the other rows SQLite has rows to make where product and
+//! reference have rows and text. In the cases of sheets it counts the distinct ones
+//! of each group. It knows no overlays, so that its query is the same in these three
+//! rows. The bytes are those of the container and its overlays. The means of the
+//! four sorts of rows are printed apart. Times are the best of all runs.
 //! Before anything is measured the results of the three are compared, rows as
 //! sets and texts byte by byte.
 //!
@@ -51,7 +53,7 @@ mod rng;
 mod cases;
 mod sqlite;
 
-use cases::{Case, CASES, FULL, SHEETS, SIZES, TEXTS};
+use cases::{Case, CASES, FULL, OVERLAYS, SHEETS, SIZES, TEXTS};
 use lent::{Input, Lent, NEEDED, OUTPUT};
 use reference::release::TEXT_LENGTH;
 use sqlite::Query;
@@ -85,15 +87,15 @@ fn parse(text: &str) -> usize {
 enum Sort {
     Steps,
     Sheets,
+    Overlays,
     Texts,
 }
 
 impl Sort {
     fn sizes(self) -> &'static [usize] {
-        if self == Sort::Sheets {
-            &FULL
-        } else {
-            &SIZES
+        match self {
+            Sort::Sheets | Sort::Overlays => &FULL,
+            Sort::Steps | Sort::Texts => &SIZES,
         }
     }
 }
@@ -101,7 +103,9 @@ impl Sort {
 fn cases() -> impl Iterator<Item = (&'static Case, Sort)> {
     let steps = CASES.iter().map(|case| (case, Sort::Steps));
     let sheets = SHEETS.iter().map(|case| (case, Sort::Sheets));
-    steps.chain(sheets).chain(TEXTS.iter().map(|case| (case, Sort::Texts)))
+    let overlays = OVERLAYS.iter().map(|case| (case, Sort::Overlays));
+    let texts = TEXTS.iter().map(|case| (case, Sort::Texts));
+    steps.chain(sheets).chain(overlays).chain(texts)
 }
 
 /// Reads an answer, so that no compiler leaves out the run that gave it.
@@ -113,6 +117,7 @@ fn keep(answer: [u32; 4]) {
 struct Bench {
     container: Vec<u8>,
     draws: Vec<i64>,
+    overlays: [Vec<u8>; 4],
     lent: Lent,
     query: Query,
     rows: Vec<i64>,
@@ -129,6 +134,7 @@ impl Bench {
         let query = Query::new(&draft.tables, &draft.draws, &sql);
         let mut bench = Bench {
             container: draft.bytes(),
+            overlays: draft.overlay_bytes(),
             draws: draft.draws,
             lent: Lent::default(),
             query,
@@ -140,8 +146,16 @@ impl Bench {
     }
 
     fn lend(&mut self, pattern: u64) {
-        let input = Input { container: &self.container, draws: &self.draws };
+        let input = Input {
+            container: &self.container,
+            draws: &self.draws,
+            overlays: self.overlays.each_ref().map(|overlay| &overlay[..]),
+        };
         self.lent.fill(input, NEEDED, TEXT_LENGTH, pattern);
+    }
+
+    fn bytes(&self) -> usize {
+        self.container.len() + self.overlays.iter().map(Vec::len).sum::<usize>()
     }
 
     /// Answers the number, rows, columns and the text's length.
@@ -225,7 +239,7 @@ fn table(milliseconds: usize) {
         "{:<18}{:>5}{:>8}{:>10}{:>11}{:>10}{:>12}{:>10}",
         "plan", "rows", "bytes", "product", "reference", "sqlite", "/reference", "/sqlite"
     );
-    let mut ratios: [[Vec<f64>; 2]; 3] = Default::default();
+    let mut ratios: [[Vec<f64>; 2]; 4] = Default::default();
     let mut growth = Vec::new();
     for (case, sort) in cases() {
         let mut times = Vec::new();
@@ -242,7 +256,7 @@ fn table(milliseconds: usize) {
                 "{:<18}{:>5}{:>8}{:>10.2}{:>11.2}{:>10.2}{:>12.3}{:>10.3}",
                 case.name,
                 size,
-                bench.container.len(),
+                bench.bytes(),
                 best[0],
                 best[1],
                 best[2],
@@ -259,7 +273,7 @@ fn table(milliseconds: usize) {
     }
     println!("product and reference write the text in every row; sqlite does so only in the rows of text");
     println!();
-    for (rows, ratios) in ["", "sheets: ", "text: "].iter().zip(&ratios) {
+    for (rows, ratios) in ["", "sheets: ", "overlays: ", "text: "].iter().zip(&ratios) {
         for (name, ratios) in ["reference", "sqlite"].iter().zip(ratios) {
             let logarithms = ratios.iter().map(|ratio| ratio.ln()).sum::<f64>();
             let mean = (logarithms / ratios.len() as f64).exp();

@@ -1,9 +1,11 @@
 // The header in C++: both functions on a container without bytes, slices that are too short, the number of finished steps over slices that were
-// used before, what work memory holds afterwards, draws of several lengths, and the text of a release in slices of several lengths. Takes place
-// in the folder of the trials' containers, whose names stand in ../args; those of the trials with draws are in ../../noise_trials.
+// used before, what work memory holds afterwards, draws of several lengths, overlays that are refused and overlays in every order, and the text of a
+// release in slices of several lengths. Takes place in the folder of the trials' containers, whose names stand in ../args; those of the trials with
+// draws are in ../../noise_trials, those of the trials with overlays in ../../overlay_trials.
 #include <cilunovay.h>
 
 #include <algorithm>
+#include <array>
 #include <cstdint>
 #include <cstdio>
 #include <fstream>
@@ -20,25 +22,55 @@ static std::vector<std::uint32_t> labels(CILUNOVAY_WORK), trace(CILUNOVAY_TRACE,
 static std::vector<std::uint64_t> marks(CILUNOVAY_MARKS);
 static std::uint64_t answer[CILUNOVAY_ANSWER] = {9, 9, 9, 9};
 
-// Runs the container with the draws, and with so many bytes for its text.
+// An overlay for each place, and the places in the order in which they are lent.
+struct Overlay {
+    std::vector<std::uint8_t> bytes = std::vector<std::uint8_t>(CILUNOVAY_OVERLAY + 1);
+    std::size_t length = 0;
+};
+static Overlay overlays[CILUNOVAY_OVERLAYS];
+static std::array<std::size_t, CILUNOVAY_OVERLAYS> order = {{0, 1, 2, 3}};
+
+// Runs the container with the draws and the overlays, and with so many bytes for its text.
 static std::uint32_t run(std::size_t room)
 {
     std::fill(output.begin(), output.end(), PATTERN);
     std::fill(text.begin(), text.end(), PATTERN);
-    return cilunovay_run(container.data(), length, draws.data(), draws_length, values.data(), values.size(), labels.data(), labels.size(),
-                         marks.data(), marks.size(), output.data(), output.size(), trace.data(), trace.size(), text.data(), room, answer,
-                         CILUNOVAY_ANSWER);
+    const Overlay &first = overlays[order[0]], &second = overlays[order[1]], &third = overlays[order[2]], &fourth = overlays[order[3]];
+    return cilunovay_run(container.data(), length, draws.data(), draws_length, first.bytes.data(), first.length, second.bytes.data(),
+                         second.length, third.bytes.data(), third.length, fourth.bytes.data(), fourth.length, values.data(), values.size(),
+                         labels.data(), labels.size(), marks.data(), marks.size(), output.data(), output.size(), trace.data(), trace.size(),
+                         text.data(), room, answer, CILUNOVAY_ANSWER);
 }
 
-static bool read(const std::string &name)
+static bool read_file(const std::string &name, std::vector<std::uint8_t> &bytes, std::size_t &size)
 {
     std::FILE *file = std::fopen(name.c_str(), "rb");
 
     if (file == nullptr)
         return false;
-    length = std::fread(container.data(), 1, container.size(), file);
+    size = std::fread(bytes.data(), 1, bytes.size(), file);
     std::fclose(file);
     return true;
+}
+
+static bool read(const std::string &name)
+{
+    return read_file(name, container, length);
+}
+
+// The overlays that stand beside a container.
+static bool read_overlays(const std::string &name)
+{
+    for (int place = 0; place < CILUNOVAY_OVERLAYS; place++)
+        if (!read_file(name + ".overlay" + std::to_string(place), overlays[place].bytes, overlays[place].length))
+            return false;
+    return true;
+}
+
+static void no_overlays()
+{
+    for (Overlay &overlay : overlays)
+        overlay.length = 0;
 }
 
 static bool no_bytes()
@@ -173,20 +205,97 @@ static bool read_draws(const std::string &name)
     return file.eof();
 }
 
-// The texts of the trials, without draws or with those of the file that stands behind each.
-static bool texts_of_the_trials(const std::string &folder, bool drawn)
+// What stands beside the containers of a folder.
+enum Beside { NOTHING, DRAWS, OVERLAYS };
+
+static bool lend(const std::string &name, Beside beside)
+{
+    return beside == DRAWS ? read_draws(name + ".draws") : beside != OVERLAYS || read_overlays(name);
+}
+
+// Tries each container of a folder with what stands beside it.
+static bool each_trial(const std::string &folder, Beside beside, bool (*right)())
 {
     std::ifstream names(folder + "../args");
-    std::string name, draws_name;
+    std::string name;
     std::size_t count = 0;
 
-    for (; std::getline(names, name) && (!drawn || std::getline(names, draws_name)); count++)
-        if (!read(folder + name) || (drawn && !read_draws(folder + draws_name)) || !texts()) {
-            std::fprintf(stderr, "the text of %s\n", name.c_str());
+    while (std::getline(names, name)) {
+        if (name.find('.') != std::string::npos)
+            continue;
+        if (!read(folder + name) || !lend(folder + name, beside) || !right()) {
+            std::fprintf(stderr, "wrong: %s\n", name.c_str());
             return false;
         }
+        count++;
+    }
     draws_length = 0;
+    no_overlays();
     return count > 0;
+}
+
+// Everything that a run has answered and written.
+struct Left {
+    std::vector<std::uint64_t> answered = std::vector<std::uint64_t>(answer, answer + CILUNOVAY_ANSWER);
+    std::vector<std::int64_t> written = output;
+    std::vector<std::uint32_t> lines = trace;
+    std::vector<std::uint8_t> characters = text;
+
+    bool operator==(const Left &other) const
+    {
+        return answered == other.answered && written == other.written && lines == other.lines && characters == other.characters;
+    }
+};
+
+// Overlays that are refused: nothing lent changes, the container by itself is accepted, and a slice that is too short comes first.
+static bool refused_overlays(std::uint32_t number)
+{
+    std::uint64_t checked[CILUNOVAY_CHECK_ANSWER] = {9, 9};
+
+    if (answer[0] != number || answer[2] != 0 || answer[3] != 0 || !work_is(USED) || !all<std::int64_t>(output, PATTERN)
+        || !all<std::uint32_t>(trace, USED) || !holds("") || cilunovay_finished(container.data(), answer) != 0)
+        return false;
+    if (cilunovay_check(container.data(), length, checked, CILUNOVAY_CHECK_ANSWER) != CILUNOVAY_RELEASED || checked[0] != 0 || checked[1] != 0)
+        return false;
+    marks.pop_back();
+    const bool first = fresh_run(CILUNOVAY_TEXT) == CILUNOVAY_TOO_SHORT;
+    marks.push_back(0);
+    return first;
+}
+
+// Overlays that are accepted, or a container that is refused: the same in every order; and where a table is released, the same without them, but for
+// the stages left in the trace.
+static bool any_order(std::uint32_t number)
+{
+    const Left left;
+
+    while (std::next_permutation(order.begin(), order.end()))
+        if (fresh_run(CILUNOVAY_TEXT) != number || !(Left() == left))
+            return false;
+    no_overlays();
+    return number != CILUNOVAY_RELEASED
+           || (fresh_run(CILUNOVAY_TEXT) == CILUNOVAY_RELEASED && text == left.characters && output == left.written);
+}
+
+static bool overlaid()
+{
+    const std::vector<Overlay> before(overlays, overlays + CILUNOVAY_OVERLAYS);
+    const std::uint32_t number = fresh_run(CILUNOVAY_TEXT);
+
+    for (int place = 0; place < CILUNOVAY_OVERLAYS; place++)
+        if (overlays[place].bytes != before[place].bytes)
+            return false;
+    return number == CILUNOVAY_BAD_OVERLAY || number == CILUNOVAY_BAD_OVERLAY_LABEL ? refused_overlays(number) : any_order(number);
+}
+
+// A trial whose overlays give this number at this offset.
+static bool refuses(const char *name, std::uint32_t number, std::uint64_t offset)
+{
+    const std::string path = std::string("../../overlay_trials/data/") + name;
+    const bool right = read(path) && read_overlays(path) && fresh_run(CILUNOVAY_TEXT) == number && answers(number, offset, 0, 0);
+
+    no_overlays();
+    return right;
 }
 
 // A NOISE of column 1 over the rows (1, 10) and (2, 20), with so many draws.
@@ -246,7 +355,13 @@ int main()
                    && finishes("r37_noise_of_a_group", CILUNOVAY_NO_DRAW, 2) && finishes("input_19", CILUNOVAY_BAD_COLUMNS, 0)
                    && finishes("input_20", CILUNOVAY_BAD_SHEETS, 0)
                    && too_few_draws(0) && too_few_draws(1) && enough_draws(2) && enough_draws(3)
-                   && texts_of_the_trials("", false) && texts_of_the_trials("../../noise_trials/data/", true) && longest_text()
+                   && refuses("x21_65537_bytes", CILUNOVAY_BAD_OVERLAY, 0) && refuses("x21_third_pair", CILUNOVAY_BAD_OVERLAY, 18)
+                   && refuses("x21_in_a_later_part_before_22", CILUNOVAY_BAD_OVERLAY, 26)
+                   && refuses("x22_on_a_sheet_number", CILUNOVAY_BAD_OVERLAY_LABEL, 18)
+                   && refuses("x22_third_overlay_before_21_of_the_fourth", CILUNOVAY_BAD_OVERLAY_LABEL, 30)
+                   && each_trial("../../overlay_trials/data/", OVERLAYS, overlaid) && each_trial("", NOTHING, texts)
+                   && each_trial("../../noise_trials/data/", DRAWS, texts) && each_trial("../../overlay_trials/data/", OVERLAYS, texts)
+                   && longest_text()
                ? 0
                : 1;
 }

@@ -1,14 +1,15 @@
-//! Tests of the Rust wrapper on the containers of a folder.
+//! Tests of the Rust wrapper on the containers of a folder, and on those with overlays of another.
 //!
 //! ```text
 //! rustc --edition 2021 --test -L native=target/staticlib -o wrapper tests/bindings/wrapper.rs
-//! CONTAINERS=crates/trials/data wrapper
+//! CONTAINERS=crates/trials/data OVERLAID=crates/overlay_trials/data wrapper
 //! ```
 
 #[path = "../../bindings/rust/cilunovay.rs"]
 mod cilunovay;
 
-use cilunovay::{check, InputFault, Kind, Line, Monitor, Refusal, Release, StateFault, StateRefusal, LONGEST_TEXT};
+use cilunovay::{check, InputFault, InputRefusal, Kind, Line, Monitor, Refusal, Release, StateFault, StateRefusal};
+use cilunovay::{LONGEST_OVERLAY, LONGEST_TEXT, MOST_OVERLAYS};
 
 fn containers() -> Vec<(String, Vec<u8>)> {
     let folder = std::env::var("CONTAINERS").expect("CONTAINERS names a folder");
@@ -197,4 +198,131 @@ fn every_number_occurs_and_is_the_fault_s() {
     seen.dedup();
     assert_eq!(seen, [11, 12, 13, 14, 15, 16, 17, 18, 19, 20, 31, 32, 33, 34, 35, 36, 37]);
     assert_eq!((InputFault::Sheets.number(), StateFault::NoDraw.number()), (20, 37));
+}
+
+/// A container of the trials with overlays, and its four.
+struct Overlaid {
+    name: String,
+    container: Vec<u8>,
+    overlays: [Vec<u8>; MOST_OVERLAYS],
+}
+
+impl Overlaid {
+    fn named(name: &str) -> Overlaid {
+        let folder = std::env::var("OVERLAID").expect("OVERLAID names a folder");
+        let read = |file: String| std::fs::read(std::path::Path::new(&folder).join(file)).unwrap();
+        let overlays = std::array::from_fn(|place| read(format!("{name}.overlay{place}")));
+        Overlaid { name: name.to_string(), container: read(name.to_string()), overlays }
+    }
+
+    fn all() -> Vec<Overlaid> {
+        let folder = std::env::var("OVERLAID").expect("OVERLAID names a folder");
+        let files = std::fs::read_dir(folder).unwrap().map(|entry| entry.unwrap().file_name().into_string().unwrap());
+        let mut names: Vec<String> = files.filter(|name| !name.contains('.')).collect();
+        names.sort();
+        assert!(!names.is_empty());
+        names.iter().map(|name| Overlaid::named(name)).collect()
+    }
+
+    /// Runs it with the overlays in these places, one after the other.
+    fn run_in_order(&self, monitor: &mut Monitor, order: [usize; MOST_OVERLAYS]) -> Result<Release, Refusal> {
+        monitor.run_with_overlays(&self.container, &[], order.map(|place| self.overlays[place].as_slice()))
+    }
+
+    fn run(&self) -> Result<Release, Refusal> {
+        self.run_in_order(&mut Monitor::new(), [0, 1, 2, 3])
+    }
+}
+
+#[test]
+fn an_overlay_asks_for_more() {
+    let overlaid = Overlaid::named("overlay_printed");
+    let refusal = overlaid.run().unwrap_err();
+    assert_eq!((refusal.number(), refusal.trace()[1]), (35, line(Kind::Group, 1, 2, 1)));
+    assert_eq!(Monitor::new().run(&overlaid.container, &[]).unwrap().values, [7, 8]);
+}
+
+#[test]
+fn four_overlays_are_composed() {
+    let release = Overlaid::named("four_overlays_four_stages").run().unwrap();
+    assert_eq!((release.values, release.trace[0]), (vec![1], line(Kind::Scan, 1, 2, 4)));
+}
+
+#[test]
+fn a_wrong_overlay_is_refused() {
+    let refusal = Overlaid::named("x21_third_pair").run().unwrap_err();
+    assert_eq!(refusal, Refusal::Input(InputRefusal { fault: InputFault::Overlay, offset: 18 }));
+    assert_eq!(
+        refusal.to_string(),
+        "refused with 21 at byte 18 of an overlay: an overlay's length, count, directory or part does not fit the \
+         container"
+    );
+    let refusal = Overlaid::named("x22_on_a_sheet_number").run().unwrap_err();
+    assert_eq!(refusal, Refusal::Input(InputRefusal { fault: InputFault::OverlayLabel, offset: 18 }));
+    assert_eq!(
+        refusal.to_string(),
+        "refused with 22 at byte 18 of an overlay: a label of an overlay is ill-formed, or not zero on a sheet number"
+    );
+    assert_eq!((InputFault::Overlay.number(), InputFault::OverlayLabel.number()), (21, 22));
+}
+
+#[test]
+fn an_overlay_that_is_too_long_is_refused() {
+    let Overlaid { container, .. } = Overlaid::named("no_overlay");
+    let long = vec![0; LONGEST_OVERLAY + 1];
+    for place in 0..MOST_OVERLAYS {
+        let overlays = std::array::from_fn(|at| if at == place { long.as_slice() } else { &[] });
+        let refusal = Monitor::new().run_with_overlays(&container, &[], overlays).unwrap_err();
+        assert_eq!(refusal, Refusal::Input(InputRefusal { fault: InputFault::Overlay, offset: 0 }));
+    }
+}
+
+#[test]
+fn the_order_of_accepted_overlays_makes_no_difference() {
+    let mut monitor = Monitor::new();
+    let mut accepted = 0;
+    for overlaid in Overlaid::all() {
+        let answer = overlaid.run();
+        if matches!(&answer, Err(refusal) if refusal.number() == 21 || refusal.number() == 22) {
+            continue;
+        }
+        for order in [[3, 2, 1, 0], [1, 2, 3, 0], [2, 0, 3, 1]] {
+            assert_eq!(overlaid.run_in_order(&mut monitor, order), answer, "{}", overlaid.name);
+        }
+        accepted += 1;
+    }
+    assert!(accepted > 0);
+}
+
+#[test]
+fn what_is_released_with_overlays_is_released_without() {
+    let mut released = 0;
+    for overlaid in Overlaid::all() {
+        if let Ok(release) = overlaid.run() {
+            let alone = Monitor::new().run(&overlaid.container, &[]).unwrap();
+            assert_eq!((alone.values, alone.text), (release.values, release.text), "{}", overlaid.name);
+            released += 1;
+        }
+    }
+    assert!(released > 0);
+}
+
+#[test]
+fn the_checks_of_a_container_take_no_overlays() {
+    let mut seen = Vec::new();
+    for overlaid in Overlaid::all() {
+        match overlaid.run() {
+            Err(Refusal::Input(refusal)) if refusal.fault.number() <= 20 => {
+                assert_eq!(check(&overlaid.container), Err(refusal), "{}", overlaid.name)
+            }
+            Err(refusal) => {
+                assert_eq!(check(&overlaid.container), Ok(()), "{}", overlaid.name);
+                seen.push(refusal.number());
+            }
+            Ok(_) => assert_eq!(check(&overlaid.container), Ok(()), "{}", overlaid.name),
+        }
+    }
+    seen.sort();
+    seen.dedup();
+    assert_eq!(seen, [21, 22, 31, 32, 33, 34, 35, 36, 37]);
 }

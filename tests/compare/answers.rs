@@ -53,7 +53,7 @@ fn only_read<R>(
     let before = lent.read.clone();
     let result = run(lent)?;
     if lent.read != before {
-        return Err("a run changed its container or its draws".into());
+        return Err("a run changed its container, its draws or its overlays".into());
     }
     Ok(result)
 }

@@ -1,9 +1,13 @@
 //! The classes that every run has to meet, and how often it did.
 
 use crate::damage::DAMAGES;
+use crate::overlay_classes;
+use crate::overlay_rules::RULES;
+use crate::wrong_overlays::WRONG_OVERLAYS;
 use std::collections::HashMap;
 
-/// The near-valid containers of `damage` are classes as well.
+/// Those of `overlay_classes`, the wrong rules of `overlay_rules`, the near-valid
+/// containers of `damage` and the overlays of `wrong_overlays` are classes as well.
 static CLASSES: &[&str] = &[
     "answer: released",
     "answer: 11",
@@ -514,15 +518,21 @@ static CLASSES: &[&str] = &[
     "51 after 64 steps",
 ];
 
+fn names() -> impl Iterator<Item = &'static str> {
+    let overlays = overlay_classes::CLASSES.iter().copied();
+    let rules = RULES.iter().map(|rule| rule.0);
+    let damages = DAMAGES.iter().map(|damage| damage.0);
+    let wrong = WRONG_OVERLAYS.iter().map(|wrong| wrong.0);
+    CLASSES.iter().copied().chain(overlays).chain(rules).chain(damages).chain(wrong)
+}
+
 pub struct Classes {
     counts: HashMap<&'static str, u64>,
 }
 
 impl Default for Classes {
     fn default() -> Classes {
-        let damages = DAMAGES.iter().map(|damage| damage.0);
-        let names = CLASSES.iter().copied().chain(damages);
-        Classes { counts: names.map(|name| (name, 0)).collect() }
+        Classes { counts: names().map(|name| (name, 0)).collect() }
     }
 }
 
@@ -542,11 +552,9 @@ impl Classes {
 
     /// Prints the counts; answers the classes that never occurred.
     pub fn print(&self) -> Vec<&'static str> {
-        let damages = DAMAGES.iter().map(|damage| damage.0);
-        let names: Vec<&'static str> = CLASSES.iter().copied().chain(damages).collect();
-        for name in &names {
+        for name in names() {
             println!("{:>9}  {name}", self.counts[name]);
         }
-        names.into_iter().filter(|name| self.counts[name] == 0).collect()
+        names().filter(|name| self.counts[name] == 0).collect()
     }
 }

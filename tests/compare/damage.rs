@@ -694,7 +694,7 @@ enum Half {
 use Half::*;
 use Which::*;
 
-fn put(bytes: &mut [u8], at: usize, number: u32) {
+pub fn put(bytes: &mut [u8], at: usize, number: u32) {
     bytes[at..at + 4].copy_from_slice(&number.to_le_bytes());
 }
 

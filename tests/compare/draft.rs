@@ -1,5 +1,5 @@
 //! A container before it is written: tables and steps as raw fields, and the
-//! draws that are lent beside it.
+//! draws and overlays that are lent beside it.
 
 use crate::reference::steps::Step;
 
@@ -8,7 +8,14 @@ pub struct Draft {
     pub tables: Vec<RawTable>,
     pub steps: Vec<RawStep>,
     pub draws: Vec<i64>,
+    pub overlays: RawOverlays,
 }
+
+/// The labels of an overlay: those of each table, row by row.
+pub type RawOverlay = Vec<Vec<u32>>;
+
+/// What stands in the four slices for overlays; `None` is an empty one.
+pub type RawOverlays = [Option<RawOverlay>; 4];
 
 /// Cells row by row, each a value and a label word; and byte 1, zero or one more
 /// than the column of sheet numbers.
@@ -58,9 +65,19 @@ impl RawTable {
         self.cells.len() / self.columns
     }
 
-    pub fn bytes(&self) -> Vec<u8> {
+    pub fn header(&self) -> Vec<u8> {
         let mut bytes = vec![self.columns as u8, self.sheets];
         bytes.extend((self.rows() as u16).to_le_bytes());
+        bytes
+    }
+
+    /// The column of sheet numbers.
+    pub fn sheet_column(&self) -> Option<usize> {
+        (self.sheets as usize).checked_sub(1)
+    }
+
+    pub fn bytes(&self) -> Vec<u8> {
+        let mut bytes = self.header();
         for (value, label) in &self.cells {
             bytes.extend(value.to_le_bytes());
             bytes.extend(label.to_le_bytes());
@@ -82,12 +99,30 @@ impl Draft {
         assemble(&self.parts())
     }
 
+    /// The four slices for overlays.
+    pub fn overlay_bytes(&self) -> [Vec<u8>; 4] {
+        self.overlays.each_ref().map(|overlay| match overlay {
+            Some(labels) => assemble(&overlay_parts(&self.tables, labels)),
+            None => Vec::new(),
+        })
+    }
+
     pub fn widths(&self) -> Vec<usize> {
         self.tables.iter().map(|table| table.columns).collect()
     }
 }
 
-/// A container with these parts and the directory they need.
+/// The parts of an overlay: for each table its header and these labels.
+pub fn overlay_parts(tables: &[RawTable], labels: &RawOverlay) -> Vec<Vec<u8>> {
+    let part = |(table, labels): (&RawTable, &Vec<u32>)| {
+        let mut part = table.header();
+        part.extend(labels.iter().flat_map(|label| label.to_le_bytes()));
+        part
+    };
+    tables.iter().zip(labels).map(part).collect()
+}
+
+/// A container, or an overlay, with these parts and the directory they need.
 pub fn assemble(parts: &[Vec<u8>]) -> Vec<u8> {
     let mut bytes = (parts.len() as u16).to_le_bytes().to_vec();
     for (index, part) in parts.iter().enumerate() {

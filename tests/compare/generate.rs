@@ -1,9 +1,12 @@
-//! Valid containers. A plan is made step by step over the tables that the
-//! steps so far have made, so that most plans run far and many are released.
+//! Valid containers, with draws and overlays. A plan is made step by step over the
+//! tables that the steps so far have made, so that most plans run far and many are
+//! released.
 
 use crate::draft::{step, Draft, RawStep, RawTable};
 use crate::labels::label;
 use crate::noise::{for_rows, list, NOISY};
+use crate::overlay_scenes;
+use crate::overlays::lend;
 use crate::reference::container::parse;
 use crate::reference::eval::perform;
 use crate::reference::steps::{Aggregate, Step};
@@ -28,9 +31,15 @@ pub enum Theme {
 }
 
 pub fn valid(rng: &mut Rng) -> Draft {
-    if rng.chance(42) {
-        return staged(rng);
+    if rng.chance(9) {
+        return overlay_scenes::scene(rng);
     }
+    let mut draft = if rng.chance(52) { staged(rng) } else { planned(rng) };
+    lend(rng, &mut draft);
+    draft
+}
+
+fn planned(rng: &mut Rng) -> Draft {
     let theme = match rng.below(200) {
         0..=119 => Theme::General,
         120..=147 => Theme::Ends,
@@ -53,7 +62,7 @@ pub fn valid(rng: &mut Rng) -> Draft {
     let mut planner = Planner::new(rng, &tables, theme, length);
     planner.plan();
     let (steps, used) = planner.done();
-    Draft { tables, steps, draws: list(rng, used) }
+    Draft { tables, steps, draws: list(rng, used), overlays: Default::default() }
 }
 
 /// A container that begins with a scene; sometimes the scene comes last, as
@@ -78,12 +87,13 @@ fn staged(rng: &mut Rng) -> Draft {
     planner.daring = daring;
     planner.finish();
     let (steps, used) = planner.done();
-    Draft { tables, steps, draws: list(rng, used) }
+    Draft { tables, steps, draws: list(rng, used), overlays: Default::default() }
 }
 
 /// The reference's view of raw tables: those of a container with one step.
 pub fn read(tables: &[RawTable]) -> Vec<Table> {
-    let draft = Draft { tables: tables.to_vec(), steps: vec![scan(0)], draws: vec![] };
+    let (tables, steps) = (tables.to_vec(), vec![scan(0)]);
+    let draft = Draft { tables, steps, draws: vec![], overlays: Default::default() };
     parse(&draft.bytes()).expect("generated tables are accepted").tables
 }
 

@@ -5,10 +5,10 @@ use crate::reference::label::Label;
 use crate::reference::steps::Step;
 use crate::rng::Rng;
 
-const H: u32 = 1 << 31;
-const T: u32 = 1 << 30;
-const A: u32 = 1 << 29;
-const N: u32 = 1 << 28;
+pub const H: u32 = 1 << 31;
+pub const T: u32 = 1 << 30;
+pub const A: u32 = 1 << 29;
+pub const N: u32 = 1 << 28;
 
 /// A well-formed label that is not clear; labels that a plan can discharge are
 /// the most frequent.
@@ -73,6 +73,17 @@ impl Lock {
         self.h || self.t || self.a || self.n.is_some()
     }
 
+    /// The class of a pair that differs in such a cell, which an overlay locks and
+    /// the container does not.
+    pub fn overlay_class(&self) -> &'static str {
+        match *self {
+            Lock { h: true, .. } => "pair: an overlay alone locks, by H",
+            Lock { t: true, .. } => "pair: an overlay alone locks, by T",
+            Lock { a: true, .. } => "pair: an overlay alone locks, by A",
+            _ => "pair: an overlay alone locks, by N",
+        }
+    }
+
     /// The class of a pair that differs in such a cell.
     pub fn class(&self) -> &'static str {
         match (self.h, self.t, self.a, self.n) {
@@ -114,9 +125,12 @@ pub fn lock(label: &Label, plan: &[Step]) -> Lock {
     }
 }
 
-/// The labelled cells: the byte offset of each value, its label, and why it is
-/// locked.
-pub fn labelled_cells(bytes: &[u8], container: &Container) -> Vec<(usize, Label, Lock)> {
+/// The labelled cells: the byte offset of each value, its label, why it is locked,
+/// and its table and number.
+pub fn labelled_cells(
+    bytes: &[u8],
+    container: &Container,
+) -> Vec<(usize, Label, Lock, (usize, usize))> {
     let u32_at = |at: usize| u32::from_le_bytes(bytes[at..at + 4].try_into().unwrap()) as usize;
     let mut found = Vec::new();
     for (index, table) in container.tables.iter().enumerate() {
@@ -124,7 +138,7 @@ pub fn labelled_cells(bytes: &[u8], container: &Container) -> Vec<(usize, Label,
         for (cell, content) in table.cells.iter().enumerate() {
             if !content.label.is_clear() {
                 let lock = lock(&content.label, &container.plan);
-                found.push((start + 12 * cell, content.label, lock));
+                found.push((start + 12 * cell, content.label, lock, (index, cell)));
             }
         }
     }

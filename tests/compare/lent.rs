@@ -1,6 +1,7 @@
 //! The slices lent to a run, each with a margin after it that nothing may touch:
 //! those for writing, filled with a known pattern, and those for reading.
 
+use crate::reference::Overlays;
 use crate::rng::{mix, Rng};
 
 /// The slices that 1 tests, and what a run needs of each: work values, work
@@ -18,6 +19,7 @@ const MARGIN: usize = 16;
 pub struct Input<'a> {
     pub container: &'a [u8],
     pub draws: &'a [i64],
+    pub overlays: Overlays<'a>,
 }
 
 /// The same with a margin after each.
@@ -25,6 +27,7 @@ pub struct Input<'a> {
 pub struct Read {
     container: Vec<u8>,
     draws: Vec<i64>,
+    overlays: [Vec<u8>; 4],
 }
 
 #[derive(Clone, Default)]
@@ -40,6 +43,13 @@ pub struct Lent {
     text: Vec<u8>,
 }
 
+/// What a run left at the start of output, text and trace.
+pub struct Kept {
+    pub rows: Vec<i64>,
+    pub text: Vec<u8>,
+    pub lines: Vec<u32>,
+}
+
 /// The slices for writing, in the order of `NAMES`.
 pub type Slices<'a> =
     (&'a mut [i64], &'a mut [u32], &'a mut [u64], &'a mut [i64], &'a mut [u32], &'a mut [u8]);
@@ -53,11 +63,17 @@ impl Read {
     fn fill(&mut self, input: Input) {
         refill(&mut self.container, input.container.iter().copied().chain([0; MARGIN]));
         refill(&mut self.draws, input.draws.iter().copied().chain([1; MARGIN]));
+        for (overlay, bytes) in self.overlays.iter_mut().zip(input.overlays) {
+            refill(overlay, bytes.iter().copied().chain([1; MARGIN]));
+        }
     }
 
     fn input(&self) -> Input<'_> {
-        let [container, draws] = [self.container.len(), self.draws.len()].map(|n| n - MARGIN);
-        Input { container: &self.container[..container], draws: &self.draws[..draws] }
+        Input {
+            container: before_margin(&self.container),
+            draws: before_margin(&self.draws),
+            overlays: self.overlays.each_ref().map(|overlay| before_margin(overlay)),
+        }
     }
 }
 
@@ -72,12 +88,9 @@ impl Lent {
         self.room = room;
         let start = mix(seed);
         let numbers = |count: usize, salt: u64| {
-            let mut state = start ^ salt;
-            (0..count + MARGIN).map(move |_| {
-                state = state
-                    .wrapping_mul(6_364_136_223_846_793_005)
-                    .wrapping_add(1_442_695_040_888_963_407);
-                state | 1 << 32 | 1
+            let first = start ^ salt << 32;
+            (0..(count + MARGIN) as u64).map(move |place| {
+                first.wrapping_add(place).wrapping_mul(6_364_136_223_846_793_005) | 1 << 32 | 1
             })
         };
         refill(&mut self.values, numbers(lengths[0], 1).map(|n| n as i64));
@@ -131,6 +144,13 @@ impl Lent {
         (&self.output[..rows * columns], &self.text[..length])
     }
 
+    /// What a run with this answer and so many finished steps has written there.
+    pub fn kept(&self, answer: [u32; 4], finished: usize) -> Kept {
+        let (rows, text) = if answer[0] == 0 { self.released(answer) } else { Default::default() };
+        let lines = self.trace[..4 * finished].to_vec();
+        Kept { rows: rows.to_vec(), text: text.to_vec(), lines }
+    }
+
     /// Where the contents of the slices for writing first differ, margins
     /// included.
     pub fn difference(&self, other: &Lent) -> Option<String> {
@@ -174,6 +194,10 @@ impl Lent {
         }
         None
     }
+}
+
+fn before_margin<T>(lent: &[T]) -> &[T] {
+    &lent[..lent.len() - MARGIN]
 }
 
 fn refill<T>(vector: &mut Vec<T>, contents: impl Iterator<Item = T>) {

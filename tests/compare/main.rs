@@ -6,17 +6,20 @@
 //!     compare SEED COUNT          COUNT containers from SEED
 //!     compare SEED COUNT INDEX    of these only the one numbered INDEX
 //!
-//! For each container, with a list of draws: the answers are equal, and so is
-//! every element of the lent slices at the end, which begin with a known pattern
-//! and have a margin behind them; what may change has changed and nothing else;
-//! containers made to be refused are refused with the number and the place they
-//! were made for; two containers that differ only in locked cells give the same
-//! answer and the same contents, and so do other draws behind those that the
-//! plan uses; the text of a release reads back as its rows, and with too little
-//! room for it the release is refused with 51; slices too short are refused with
-//! 1 and unchanged, those for the answer too; the product's input checks answer
-//! as the reference's do; where no table has sheet numbers, none is scanned twice
-//! and none is joined, the answer is that of the rule that counts rows.
+//! For each container, with a list of draws and with overlays or without: the
+//! answers are equal, and so is every element of the lent slices at the end, which
+//! begin with a known pattern and have a margin behind them; what may change has
+//! changed and nothing else; containers and overlays made to be refused are refused
+//! with the number and the place they were made for; two containers that differ
+//! only in locked cells give the same answer and the same contents, and so do other
+//! draws behind those that the plan uses, overlays in another order, one more of
+//! zero labels, and the same labels divided otherwise among the container and its
+//! overlays; what is released with overlays is released without them; the text of a
+//! release reads back as its rows, and with too little room for it the release is
+//! refused with 51; slices too short are refused with 1 and unchanged, those for the
+//! answer too; the product's input checks answer as the reference's do; where no
+//! table has sheet numbers, none is scanned twice and none is joined, the answer is
+//! that of the rule that counts rows.
 //!
 //! Prints how often each class occurred. The exit status is 1 after a
 //! difference, or if some class never occurred (not asked for a single INDEX).
@@ -34,10 +37,17 @@ mod classes;
 mod damage;
 mod draft;
 mod generate;
+mod inputs;
 mod labels;
 mod lent;
 mod noise;
 mod observe;
+mod overlay_checks;
+mod overlay_classes;
+mod overlay_labels;
+mod overlay_rules;
+mod overlay_scenes;
+mod overlays;
 mod product;
 mod rng;
 mod rules;
@@ -45,21 +55,21 @@ mod scenes;
 mod sheet_scenes;
 mod sheets;
 mod texts;
+mod wrong_overlays;
 mod wrong_sheets;
 mod wrong_steps;
 
 use classes::Classes;
-use damage::DAMAGES;
+use inputs::Given;
 use lent::{long_enough, Input, Lengths, Lent, MARKS, NEEDED};
 use observe::Seen;
+use overlay_labels::Layers;
 use product::by_reference;
 use reference::container::{parse, Container};
 use reference::eval::evaluate;
+use reference::overlay::composed;
 use reference::release::released;
 use rng::Rng;
-
-/// The number and the offset that a container was made for.
-type Expected = Option<(&'static str, u32, usize)>;
 
 fn main() {
     let arguments: Vec<u64> =
@@ -97,6 +107,8 @@ fn usage() -> ! {
 #[derive(Default)]
 struct Harness {
     classes: Classes,
+    /// For observations that do not count.
+    scratch: Classes,
     containers: u64,
     runs: u64,
     failures: u64,
@@ -110,28 +122,23 @@ impl Harness {
     /// Makes the container with this index, and runs it.
     fn one(&mut self, seed: u64, index: u64) {
         let mut rng = Rng::new(rng::mix(seed) ^ index);
-        let draft = generate::valid(&mut rng);
-        let draws = draft.draws.clone();
-        let (bytes, expected) = match rng.below(100) {
-            0..=59 => (draft.bytes(), None),
-            60..=91 => near_valid(&mut rng, draft),
-            _ => (damaged(&mut rng, draft), None),
-        };
-        let input = Input { container: &bytes, draws: &draws };
+        let given = inputs::make(&mut rng);
         self.containers += 1;
-        if let Err(what) = self.compare(&mut rng, input, expected) {
+        if let Err(what) = self.compare(&mut rng, &given) {
             self.failures += 1;
             println!("seed {seed} index {index}: {what}");
-            write(&format!("compare-{seed}-{index}"), input);
+            write(&format!("compare-{seed}-{index}"), &given);
         }
     }
 
-    fn compare(&mut self, rng: &mut Rng, input: Input, expected: Expected) -> Result<(), String> {
+    fn compare(&mut self, rng: &mut Rng, given: &Given) -> Result<(), String> {
+        let input = given.input();
         let bytes = input.container;
         let pattern = rng.next();
-        let parsed = parse(bytes);
+        let plain = parse(bytes);
+        let prepared = plain.clone().and_then(|plain| composed(plain, &input.overlays));
         let (finished, length) =
-            parsed.as_ref().map_or((0, 0), |container| outlook(container, input.draws));
+            prepared.as_ref().map_or((0, 0), |container| outlook(container, input.draws));
         let room = texts::enough(rng, length);
         let lengths = long_enough(rng);
         let answer = self.both(input, lengths, room, pattern)?;
@@ -140,7 +147,7 @@ impl Harness {
         self.classes.hit_if(begun && lengths[2] == MARKS, "run in 1,024 marks");
         self.classes.hit_if(begun && lengths[2] > MARKS, "run in more than 1,024 marks");
         texts::refused_before(answer[0], room, &mut self.classes);
-        if let Some((class, number, offset)) = expected {
+        if let Some((class, number, offset)) = given.expected {
             if answer != [number, offset as u32, 0, 0] {
                 return Err(format!("{class}: {answer:?}, made for {number} at {offset}"));
             }
@@ -159,24 +166,23 @@ impl Harness {
         if let Some(what) = self.ours.breach(&self.before, answer, finished) {
             return Err(what);
         }
-        match (parsed, checked) {
-            (Ok(container), Ok(())) => {
+        match (plain, prepared) {
+            (Ok(plain), Ok(container)) => {
                 if answer[0] == 0 {
                     self.text(answer, room)?;
                 }
-                let mut seen = observe::observe(input, &container, &mut self.classes);
-                seen.sheets_decide =
-                    rules::sheets_decide(&container, input.draws, &mut self.classes);
-                self.as_rows(input, &container, answer, &seen)?;
-                self.locked(rng, input, &container, answer, &seen)?;
-                self.unused(rng, input, answer, seen.used)?;
-                if answer[0] == 0 {
-                    self.unlocked(rng, input, &container, answer)?;
-                    self.no_room(rng, input, &container, answer, &seen)?;
-                }
+                self.accepted(rng, input, &plain, &container, answer, finished)?;
             }
-            (Err(one), Err(two)) if one == two && one.fault.number() == answer[0] => {
+            (Ok(plain), Err(refusal)) if refusal.fault.number() == answer[0] => {
+                overlay_classes::refused(&plain, &input.overlays, &mut self.classes);
                 self.unused(rng, input, answer, 0)?;
+                self.zeros_added(rng, input, &plain, answer)?;
+                self.exchanged(rng, given)?;
+            }
+            (Err(refusal), _) if refusal.fault.number() == answer[0] => {
+                overlay_classes::refused_before(given, answer, &mut self.classes);
+                self.unused(rng, input, answer, 0)?;
+                self.unread(rng, input, answer)?;
             }
             _ => return Err("check and run differ".into()),
         }
@@ -184,6 +190,40 @@ impl Harness {
             self.short(rng, input, pattern, answer, length)?;
         }
         Ok(())
+    }
+
+    /// A run that was evaluated; `container` has the composed labels.
+    fn accepted(
+        &mut self,
+        rng: &mut Rng,
+        input: Input,
+        plain: &Container,
+        container: &Container,
+        answer: [u32; 4],
+        finished: usize,
+    ) -> Result<(), String> {
+        let kept = self.theirs.kept(answer, finished);
+        let mut seen = observe::observe(input, plain, container, &mut self.classes);
+        seen.sheets_decide = rules::sheets_decide(container, input.draws, &mut self.classes);
+        let layers = Layers::new(plain, &input.overlays);
+        let release = answer[0] == 0;
+        overlay_classes::accepted(&input.overlays, &layers, container, release, &mut self.classes);
+        // All the small ones, and some of the others, for the time that it takes.
+        let small = container.tables.iter().all(|table| table.cells.len() < 40);
+        if layers.lent().next().is_some() && (small || rng.chance(15)) {
+            overlay_rules::tell_apart(container, &layers, input.draws, &mut self.classes);
+        }
+        self.as_rows(input, container, answer, &seen)?;
+        self.locked(rng, input, &layers, container, answer, &seen)?;
+        self.unused(rng, input, answer, seen.used)?;
+        self.other_order(rng, input, answer)?;
+        self.zeros_added(rng, input, plain, answer)?;
+        self.divided_otherwise(rng, input, container, answer)?;
+        if release {
+            self.unlocked(rng, input, container, answer)?;
+            self.no_room(rng, input, &layers, container, answer, &seen)?;
+        }
+        self.without(rng, input, container.plan.len(), answer, &kept)
     }
 
     /// A base container, of before #103, answers as it did then.
@@ -268,6 +308,7 @@ impl Harness {
         &mut self,
         rng: &mut Rng,
         input: Input,
+        layers: &Layers,
         container: &Container,
         release: [u32; 4],
         seen: &Seen,
@@ -283,32 +324,37 @@ impl Harness {
         }
         self.classes.hit(number_class(answer[0]));
         texts::refused(release, steps, room, &mut self.classes);
-        self.locked(rng, input, container, answer, seen)
+        self.classes.hit_if(layers.lent().next().is_some(), "overlays: 51");
+        self.locked(rng, input, layers, container, answer, seen)
     }
 
-    /// Demand 3: the same container with other values in its locked cells, and
-    /// the same draws.
+    /// Demand 3: the same container with other values in its locked cells, by the
+    /// composed labels, and the same draws and overlays.
     fn locked(
         &mut self,
         rng: &mut Rng,
         input: Input,
+        layers: &Layers,
         container: &Container,
         answer: [u32; 4],
         seen: &Seen,
     ) -> Result<(), String> {
         let mut cells = labels::labelled_cells(input.container, container);
-        cells.retain(|(_, _, lock)| lock.any());
+        cells.retain(|(_, _, lock, _)| lock.any());
         if cells.is_empty() {
             self.classes.hit("no locked cell");
             return Ok(());
         }
         let mut other = input.container.to_vec();
         let all = rng.chance(70);
-        for (offset, _, lock) in cells {
+        let mut by_overlay = false;
+        for (offset, _, lock, place) in cells {
             if all || rng.chance(40) {
                 let value = generate::number(rng);
                 other[offset..offset + 8].copy_from_slice(&value.to_le_bytes());
                 self.classes.hit(lock.class());
+                by_overlay |=
+                    overlay_classes::pair(layers, container, place, lock, &mut self.classes);
             }
         }
         let other = Input { container: &other, ..input };
@@ -329,8 +375,12 @@ impl Harness {
         self.classes.hit_if(numbered, "pair: with sheet numbers");
         self.classes.hit_if(numbered && answer[0] == 0, "pair: released, with sheet numbers");
         self.classes.hit_if(seen.sheets_decide, "pair: the sheets decide, not the rows");
-        if let Ok(container) = parse(other.container) {
-            let second = observe::observe(other, &container, &mut Classes::default());
+        let released = answer[0] == 0;
+        self.classes.hit_if(by_overlay && released, "pair: an overlay alone locks, released");
+        self.classes.hit_if(by_overlay && !released, "pair: an overlay alone locks, refused");
+        if let Ok(plain) = parse(other.container) {
+            let container = composed(plain.clone(), &other.overlays).expect("the same overlays");
+            let second = observe::observe(other, &plain, &container, &mut self.scratch);
             let by_draw = second.over_by_draw != seen.over_by_draw;
             self.classes.hit_if(second.over != seen.over, "pair: OVER made in one of the two");
             self.classes.hit_if(by_draw, "pair: OVER made by a draw in one of the two");
@@ -348,13 +398,13 @@ impl Harness {
         release: [u32; 4],
     ) -> Result<(), String> {
         let mut cells = labels::labelled_cells(input.container, container);
-        cells.retain(|(_, label, lock)| label.word() == noise::NOISY && !lock.any());
+        cells.retain(|(_, label, lock, _)| label.word() == noise::NOISY && !lock.any());
         if cells.is_empty() {
             return Ok(());
         }
         let rows = self.theirs.released(release).0.to_vec();
         let mut other = input.container.to_vec();
-        for (offset, _, _) in cells {
+        for (offset, _, _, _) in cells {
             other[offset..offset + 8].copy_from_slice(&rng.between(-99, 99).to_le_bytes());
         }
         let other = Input { container: &other, ..input };
@@ -421,6 +471,7 @@ impl Harness {
         answers::short_check(input.container, pattern)?;
         self.classes.hit("1 answer of the input checks");
         self.classes.hit_if((11..=20).contains(&answer[0]), "1 before a refusal of the input");
+        self.classes.hit_if((21..=22).contains(&answer[0]), "1 before a refusal of an overlay");
         if self.both(input, NEEDED, length, pattern)? != answer {
             return Err("another answer with slices of just the length needed".into());
         }
@@ -457,49 +508,20 @@ fn outlook(container: &Container, draws: &[i64]) -> (usize, usize) {
     (evaluation.trace.len(), text.len())
 }
 
-/// Writes the container and its draws, as `reference noise` reads them.
-fn write(name: &str, input: Input) {
+/// Writes the container, its draws as `reference noise` reads them, and its overlays.
+fn write(name: &str, given: &Given) {
     let path = std::env::temp_dir().join(name);
-    let draws: String = input.draws.iter().map(|draw| format!("{draw}\n")).collect();
-    let written = std::fs::write(path.with_extension("bin"), input.container)
+    let draws: String = given.draws.iter().map(|draw| format!("{draw}\n")).collect();
+    let mut written = std::fs::write(path.with_extension("bin"), &given.container)
         .and_then(|()| std::fs::write(path.with_extension("draws"), draws));
+    for (slice, overlay) in given.overlays.iter().enumerate() {
+        let file = path.with_extension(format!("overlay{slice}"));
+        written = written.and_then(|()| std::fs::write(file, overlay));
+    }
     if written.is_ok() {
-        println!("    container and draws written to {}.bin and .draws", path.display());
+        let path = path.display();
+        println!("    written to {path}.bin, .draws and .overlay0 to .overlay3");
     }
-}
-
-fn near_valid(rng: &mut Rng, mut draft: draft::Draft) -> (Vec<u8>, Expected) {
-    while draft.bytes().len() > 60_000 {
-        draft = generate::valid(rng);
-    }
-    let (class, number, make) = DAMAGES[rng.below(DAMAGES.len())];
-    let (bytes, offset) = make(rng, draft);
-    (bytes, Some((class, number, offset)))
-}
-
-/// A container with a few bytes changed, cut, doubled or added anywhere.
-fn damaged(rng: &mut Rng, draft: draft::Draft) -> Vec<u8> {
-    let mut bytes = draft.bytes();
-    for _ in 0..1 + rng.below(4) {
-        let at = rng.below(bytes.len().max(1));
-        match rng.below(10) {
-            0 => bytes.truncate(at),
-            1 => bytes.insert(at, rng.next() as u8),
-            2 if at + 1 < bytes.len() => {
-                bytes.remove(at);
-            }
-            3 => bytes.extend_from_within(at..),
-            4 => bytes = (0..rng.below(200)).map(|_| rng.next() as u8).collect(),
-            // The plan and the directory are small beside the tables.
-            5..=7 if !bytes.is_empty() => {
-                let near = rng.below(bytes.len().min(200));
-                bytes[near] ^= 1 << rng.below(8);
-            }
-            _ if at < bytes.len() => bytes[at] = rng.next() as u8,
-            _ => (),
-        }
-    }
-    bytes
 }
 
 fn number_class(number: u32) -> &'static str {
@@ -515,6 +537,8 @@ fn number_class(number: u32) -> &'static str {
         18 => "answer: 18",
         19 => "answer: 19",
         20 => "answer: 20",
+        21 => "answer: 21",
+        22 => "answer: 22",
         31 => "answer: 31",
         32 => "answer: 32",
         33 => "answer: 33",

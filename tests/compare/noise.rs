@@ -91,6 +91,7 @@ pub fn finished(plan: &[Step], lent: usize, used: usize, classes: &mut Classes) 
 pub fn unused(number: u32, used: usize, classes: &mut Classes) {
     classes.hit(match (number, used) {
         (11..=20, _) => "other draws, refused because of the input",
+        (21 | 22, _) => "other draws, refused because of an overlay",
         (_, 0) => "other draws, none used",
         (0, _) => "other draws behind those used, released",
         (32, _) => "other draws behind those used, refused with 32",

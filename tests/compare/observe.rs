@@ -35,8 +35,14 @@ pub struct Seen {
     pub sheets_decide: bool,
 }
 
-pub fn observe(input: Input, container: &Container, classes: &mut Classes) -> Seen {
-    accepted(input.container, container, classes);
+/// `plain` is the container without its overlays, `container` the one with them.
+pub fn observe(
+    input: Input,
+    plain: &Container,
+    container: &Container,
+    classes: &mut Classes,
+) -> Seen {
+    accepted(input.container, plain, classes);
     let mut seen = Seen::default();
     let mut stack: Vec<Table> = Vec::new();
     let mut draws = input.draws.iter();

@@ -18,6 +18,14 @@ extern "C" {
         container_len: usize,
         draws: *const i64,
         draws_len: usize,
+        overlay_0: *const u8,
+        overlay_0_len: usize,
+        overlay_1: *const u8,
+        overlay_1_len: usize,
+        overlay_2: *const u8,
+        overlay_2_len: usize,
+        overlay_3: *const u8,
+        overlay_3_len: usize,
         values: *mut i64,
         values_len: usize,
         labels: *mut u32,
@@ -53,6 +61,14 @@ pub fn call_run(lent: &mut Lent, answer: &mut [u64]) -> u32 {
             input.container.len(),
             input.draws.as_ptr(),
             input.draws.len(),
+            input.overlays[0].as_ptr(),
+            input.overlays[0].len(),
+            input.overlays[1].as_ptr(),
+            input.overlays[1].len(),
+            input.overlays[2].as_ptr(),
+            input.overlays[2].len(),
+            input.overlays[3].as_ptr(),
+            input.overlays[3].len(),
             values.as_mut_ptr(),
             values.len(),
             labels.as_mut_ptr(),
@@ -91,8 +107,10 @@ pub fn call_run(lent: &mut Lent, answer: &mut [u64]) -> u32 {
 
 /// Runs the reference in the same slices; answers its numbers.
 pub fn by_reference(lent: &mut Lent) -> [u32; RUN_ANSWER] {
-    let (Input { container, draws }, (values, labels, marks, output, trace, text)) = lent.slices();
-    crate::reference::run(container, draws, values, labels, marks, output, trace, text).numbers()
+    let (input, (values, labels, marks, output, trace, text)) = lent.slices();
+    let Input { container, draws, overlays } = input;
+    crate::reference::run(container, draws, &overlays, values, labels, marks, output, trace, text)
+        .numbers()
 }
 
 #[cfg(reference_only)]

@@ -14,7 +14,7 @@ pub struct Scene {
     pub steps: Vec<RawStep>,
 }
 
-const SCENES: [fn(&mut Rng) -> Scene; 33] = [
+const SCENES: [fn(&mut Rng) -> Scene; 34] = [
     union_at_the_limit,
     join_at_the_limit,
     whole_output,
@@ -48,6 +48,7 @@ const SCENES: [fn(&mut Rng) -> Scene; 33] = [
     sheet_scenes::group_of_groups,
     sheet_scenes::group_of_groups,
     sheet_scenes::full_tables,
+    sheet_scenes::full_tables,
 ];
 
 pub fn scene(rng: &mut Rng) -> Scene {
@@ -67,7 +68,7 @@ pub fn noise(column: usize) -> RawStep {
 }
 
 /// A table without labels, of small values.
-fn clear(rng: &mut Rng, columns: usize, rows: usize) -> RawTable {
+pub fn clear(rng: &mut Rng, columns: usize, rows: usize) -> RawTable {
     let most = rng.pick(&[1, 3, 50]);
     let cells = (0..columns * rows).map(|_| (rng.between(0, most), 0)).collect();
     RawTable::new(columns, cells)

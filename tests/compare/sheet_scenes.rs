@@ -9,14 +9,14 @@ use crate::rng::Rng;
 use crate::scenes::{keep, noise, scan, Scene};
 use crate::sheets::{numbers, put, shuffle};
 
-const KEY: usize = 0;
-const VALUE: usize = 1;
+pub const KEY: usize = 0;
+pub const VALUE: usize = 1;
 const SHEET: usize = 2;
 
 /// Rows of a key, a value and a sheet number, in groups of one key; numbers that
 /// follow one another, or are alike in their low bits. The label of the values is
 /// put in later.
-fn ballots(rng: &mut Rng) -> RawTable {
+pub fn ballots(rng: &mut Rng) -> RawTable {
     let first = rng.pick(&[0, 0, 1, 255]);
     let apart = rng.pick(&[1, 1, 1, 1 << 8, 1 << 16, 1 << 32, HIGHEST / 5]);
     let mut rows = Vec::new();
@@ -36,7 +36,7 @@ fn ballots(rng: &mut Rng) -> RawTable {
 }
 
 /// How many sheets the rows with key 0 have, in these tables together.
-fn sheets_of_key_0(tables: &[RawTable]) -> usize {
+pub fn sheets_of_key_0(tables: &[RawTable]) -> usize {
     let tables = read(tables);
     let rows = tables.iter().flat_map(|table| (0..table.rows()).map(move |row| (table, row)));
     let of_key_0 = rows.filter(|(table, row)| table.row(*row)[KEY].value == Value::Known(0));
@@ -62,7 +62,7 @@ fn put_label(rng: &mut Rng, table: &mut RawTable, sheets: usize) -> u8 {
 }
 
 /// Steps that keep rows and marks, and leave key and value where they are.
-fn between(rng: &mut Rng) -> Vec<RawStep> {
+pub fn between(rng: &mut Rng) -> Vec<RawStep> {
     let drop = keep(1 << KEY | 1 << VALUE);
     match rng.below(8) {
         0 => vec![],
@@ -74,7 +74,7 @@ fn between(rng: &mut Rng) -> Vec<RawStep> {
     }
 }
 
-fn group(keys: u8, aggregate: u8, column: usize) -> RawStep {
+pub fn group(keys: u8, aggregate: u8, column: usize) -> RawStep {
     step(7, keys, aggregate, column as u8, 0, 0)
 }
 

@@ -152,6 +152,8 @@ pub fn refused_before(number: u32, room: usize, classes: &mut Classes) {
     let [empty, long] = match number {
         1 => ["1 with an empty text slice", "1 with a long text slice"],
         11..=20 => ["11 to 20 with an empty text slice", "11 to 20 with a long text slice"],
+        21 => ["21 with an empty text slice", "21 with a long text slice"],
+        22 => ["22 with an empty text slice", "22 with a long text slice"],
         31 => ["31 with an empty text slice", "31 with a long text slice"],
         32 => ["32 with an empty text slice", "32 with a long text slice"],
         33 => ["33 with an empty text slice", "33 with a long text slice"],

@@ -1,7 +1,7 @@
 //! "The container", and what is "refused because of the input". "Checked in
 //! this order: 11; 12; for each table 13, then for each cell 14, 15; then 16;
 //! then for each step 17, 18, 19." Document 02's 20 comes "after all 14 and 15 of
-//! the table".
+//! the table"; its 21 and 22 are in `overlay`.
 
 use super::label::Label;
 use super::steps::{Step, STEP_BYTES};
@@ -26,6 +26,8 @@ pub enum InputFault {
     Tables,
     Shape,
     Sheets,
+    Overlay,
+    OverlayLabel,
 }
 
 impl InputFault {
@@ -41,6 +43,8 @@ impl InputFault {
             InputFault::Tables => 18,
             InputFault::Shape => 19,
             InputFault::Sheets => 20,
+            InputFault::Overlay => 21,
+            InputFault::OverlayLabel => 22,
         }
     }
 }
@@ -52,31 +56,38 @@ pub struct InputRefusal {
     pub offset: usize,
 }
 
-fn refuse<T>(fault: InputFault, offset: usize) -> Result<T, InputRefusal> {
+pub fn refuse<T>(fault: InputFault, offset: usize) -> Result<T, InputRefusal> {
     Err(InputRefusal { fault, offset })
 }
 
-/// A container past the input checks.
+/// A container past the input checks, with the four header bytes of each table.
+#[derive(Clone)]
 pub struct Container {
     pub tables: Vec<Table>,
+    pub headers: Vec<[u8; 4]>,
     pub plan: Vec<Step>,
 }
 
 pub fn parse(bytes: &[u8]) -> Result<Container, InputRefusal> {
-    let parts = directory(bytes)?;
-    let mut tables = Vec::new();
+    let parts = match directory(bytes, |count| (2..=9).contains(&count)) {
+        Ok(parts) => parts,
+        Err(Misfit::Whole) => return refuse(InputFault::Container, 0),
+        Err(Misfit::Pair(place)) => return refuse(InputFault::Directory, place),
+    };
+    let (mut tables, mut headers) = (Vec::new(), Vec::new());
     for (number, part) in parts[1..].iter().enumerate() {
         tables.push(table(bytes, part.clone(), number)?);
+        headers.push(bytes[part.start..part.start + 4].try_into().unwrap());
     }
     let plan = plan(bytes, parts[0].clone(), &tables)?;
-    Ok(Container { tables, plan })
+    Ok(Container { tables, headers, plan })
 }
 
 fn u16_at(bytes: &[u8], offset: usize) -> usize {
     u16::from_le_bytes(bytes[offset..offset + 2].try_into().unwrap()) as usize
 }
 
-fn u32_at(bytes: &[u8], offset: usize) -> u32 {
+pub fn u32_at(bytes: &[u8], offset: usize) -> u32 {
     u32::from_le_bytes(bytes[offset..offset + 4].try_into().unwrap())
 }
 
@@ -84,15 +95,26 @@ fn i64_at(bytes: &[u8], offset: usize) -> i64 {
     i64::from_le_bytes(bytes[offset..offset + 8].try_into().unwrap())
 }
 
+/// What a count and its directory may be: "too long, too short for its directory,
+/// or a wrong part count"; or a pair at this place "breaks the rule".
+pub enum Misfit {
+    Whole,
+    Pair(usize),
+}
+
 /// "First a 16-bit part count, 2 to 9, then a directory with one pair per
-/// part, 32-bit offset and 32-bit length."
-fn directory(bytes: &[u8]) -> Result<Vec<Range<usize>>, InputRefusal> {
+/// part, 32-bit offset and 32-bit length." The same of an overlay, #106, with
+/// another count.
+pub fn directory(
+    bytes: &[u8],
+    right_count: impl Fn(usize) -> bool,
+) -> Result<Vec<Range<usize>>, Misfit> {
     if bytes.len() > MOST_BYTES || bytes.len() < 2 {
-        return refuse(InputFault::Container, 0);
+        return Err(Misfit::Whole);
     }
     let count = u16_at(bytes, 0);
-    if !(2..=9).contains(&count) || bytes.len() < 2 + PAIR_BYTES * count {
-        return refuse(InputFault::Container, 0);
+    if !right_count(count) || bytes.len() < 2 + PAIR_BYTES * count {
+        return Err(Misfit::Whole);
     }
     // "The first part begins where the directory ends, each next one where the
     // last ends, and the final one ends the container."
@@ -103,13 +125,13 @@ fn directory(bytes: &[u8]) -> Result<Vec<Range<usize>>, InputRefusal> {
         let offset = u32_at(bytes, pair(part)) as u64;
         let length = u32_at(bytes, pair(part) + 4) as u64;
         if offset != expected {
-            return refuse(InputFault::Directory, pair(part));
+            return Err(Misfit::Pair(pair(part)));
         }
         expected = offset + length;
         parts.push(offset as usize..expected as usize);
     }
     if expected != bytes.len() as u64 {
-        return refuse(InputFault::Directory, pair(count - 1));
+        return Err(Misfit::Pair(pair(count - 1)));
     }
     Ok(parts)
 }

@@ -5,7 +5,7 @@
 use super::reference::label::{Forbidden, Label};
 use super::reference::steps::{Aggregate, Operand, Operation};
 use super::reference::value::{aggregate, Value, HIGHEST, LOWEST};
-use super::{print_run, NO_DRAWS};
+use super::{print_run, NO_DRAWS, NO_OVERLAYS};
 
 fn label(word: u32) -> Label {
     let label = Label::from_word(word).expect("well-formed");
@@ -99,7 +99,7 @@ pub fn printed_case(word: u32) -> Vec<u8> {
 
 fn printed(word: u32) -> String {
     let mut text = String::new();
-    print_run(&printed_case(word), NO_DRAWS, &mut text);
+    print_run(&printed_case(word), NO_DRAWS, NO_OVERLAYS, &mut text);
     text
 }
 

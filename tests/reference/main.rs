@@ -1,5 +1,6 @@
 //! The monitor program of document 01, by the reference implementation, the
-//! text of a release, runs with draws, and the answers of the trials.
+//! text of a release, runs with draws and with overlays, and the answers of the
+//! trials.
 //!
 //!     rustc -O --edition 2021 -o reference tests/reference/main.rs
 //!
@@ -7,6 +8,9 @@
 //!     reference FILE..      runs each container, behind a line with its name
 //!     reference noise FILE DRAWS..  runs each container with the draws of the
 //!                           file named after it, behind a line with its name
+//!     reference overlays FILE O0 O1 O2 O3..  runs each container with the overlays
+//!                           of the four files named after it, behind a line with
+//!                           its name; an empty file is no overlay
 //!     reference export      writes the text of the release, or the refusal's
 //!                           line to standard error
 //!     reference texts FILE..  the answers with much and little room for the
@@ -16,8 +20,8 @@
 //!                           to the label library, with its answer
 //!     reference steps       the same for single steps on small tables
 //!
-//! Only `noise` and `steps` have draws. A file of draws has decimal numbers of 64
-//! bits, one a line.
+//! Only `noise` and `steps` have draws, and only `overlays` has overlays. A file of
+//! draws has decimal numbers of 64 bits, one a line.
 
 #[path = "lib.rs"]
 #[allow(dead_code, unused_imports)]
@@ -28,7 +32,7 @@ mod step_trials;
 
 use reference::container::parse;
 use reference::release::{MARKS_LENGTH, OUTPUT_LENGTH, TEXT_LENGTH, TRACE_LENGTH, WORK_LENGTH};
-use reference::{run, Answer};
+use reference::{run, Answer, Overlays};
 use std::fmt::{Display, Write as _};
 use std::io::{self, Read, Write};
 
@@ -37,7 +41,7 @@ fn main() {
     let words: Vec<&str> = words.iter().map(String::as_str).collect();
     let mut text = String::new();
     match words[..] {
-        [] => print_run(&read(io::stdin(), "standard input"), NO_DRAWS, &mut text),
+        [] => print_run(&read(io::stdin(), "standard input"), NO_DRAWS, NO_OVERLAYS, &mut text),
         ["labels"] => {
             for (index, question) in input().lines().enumerate() {
                 let line = label_trials::line(question).unwrap_or_else(|| no_line(index + 1));
@@ -51,7 +55,19 @@ fn main() {
                     _ => fail(pair[0], "no file of draws after it"),
                 };
                 writeln!(text, "{name}").unwrap();
-                print_run(&read_file(name), &read_draws(draws), &mut text);
+                print_run(&read_file(name), &read_draws(draws), NO_OVERLAYS, &mut text);
+            }
+        }
+        ["overlays", ref names @ ..] => {
+            for group in names.chunks(5) {
+                let (name, overlays) = match *group {
+                    [name, ref overlays @ ..] if overlays.len() == 4 => (name, overlays),
+                    _ => fail(group[0], "no four files of overlays after it"),
+                };
+                let files: Vec<Vec<u8>> = overlays.iter().map(|name| read_file(name)).collect();
+                let overlays = [0, 1, 2, 3].map(|place: usize| &files[place][..]);
+                writeln!(text, "{name}").unwrap();
+                print_run(&read_file(name), NO_DRAWS, &overlays, &mut text);
             }
         }
         ["export"] => match export(&read(io::stdin(), "standard input")) {
@@ -73,7 +89,7 @@ fn main() {
         ref names => {
             for name in names {
                 writeln!(text, "{name}").unwrap();
-                print_run(&read_file(name), NO_DRAWS, &mut text);
+                print_run(&read_file(name), NO_DRAWS, NO_OVERLAYS, &mut text);
             }
         }
     }
@@ -103,7 +119,8 @@ fn read_file(name: &str) -> Vec<u8> {
     read(file, name)
 }
 
-/// One byte more than the longest container, so that 11 shows.
+/// One byte more than the longest container and the longest overlay, so that 11
+/// and 21 show.
 fn read(source: impl Read, name: &str) -> Vec<u8> {
     let mut bytes = Vec::new();
     if let Err(error) = source.take(65_537).read_to_end(&mut bytes) {
@@ -114,6 +131,7 @@ fn read(source: impl Read, name: &str) -> Vec<u8> {
 
 /// Programs lend, "of the inputs that requests add, empty ones".
 const NO_DRAWS: &[i64] = &[];
+const NO_OVERLAYS: &Overlays = &[&[]; 4];
 
 fn read_draws(name: &str) -> Vec<i64> {
     let text = std::fs::read_to_string(name).unwrap_or_else(|error| fail(name, error));
@@ -158,8 +176,9 @@ struct Left {
     text: Vec<u8>,
 }
 
-/// Runs a container with these draws and so many bytes of room for the text.
-fn run_in(room: usize, container: &[u8], draws: &[i64]) -> Left {
+/// Runs a container with these draws and overlays and so many bytes of room for
+/// the text.
+fn run_in(room: usize, container: &[u8], draws: &[i64], overlays: &Overlays) -> Left {
     let mut values = vec![0i64; WORK_LENGTH];
     let mut labels = vec![0u32; WORK_LENGTH];
     let mut marks = vec![0u64; MARKS_LENGTH];
@@ -169,6 +188,7 @@ fn run_in(room: usize, container: &[u8], draws: &[i64]) -> Left {
     let answer = run(
         container,
         draws,
+        overlays,
         &mut values,
         &mut labels,
         &mut marks,
@@ -198,14 +218,14 @@ impl Left {
 }
 
 fn export(container: &[u8]) -> Result<String, String> {
-    run_in(TEXT_LENGTH, container, NO_DRAWS).export()
+    run_in(TEXT_LENGTH, container, NO_DRAWS, NO_OVERLAYS).export()
 }
 
 /// "per finished step `S`, step, kind, rows, columns, stages left; then per
 /// released row `R` and its values, or `X`, the number and the place". The
 /// program "lends room enough for every write".
-fn print_run(container: &[u8], draws: &[i64], text: &mut String) {
-    let left = run_in(TEXT_LENGTH, container, draws);
+fn print_run(container: &[u8], draws: &[i64], overlays: &Overlays, text: &mut String) {
+    let left = run_in(TEXT_LENGTH, container, draws, overlays);
     // No step has kind 0, so a zero kind ends the finished steps.
     for (step, line) in left.trace.chunks(4).take_while(|line| line[0] != 0).enumerate() {
         writeln!(text, "S {step} {} {} {} {}", line[0], line[1], line[2], line[3]).unwrap();
@@ -237,7 +257,8 @@ fn print_texts(container: &[u8], text: &mut String) {
     }
     rooms.push(MUCH_ROOM);
     for room in rooms {
-        let [number, one, two, three] = run_in(room, container, NO_DRAWS).answer.numbers();
+        let left = run_in(room, container, NO_DRAWS, NO_OVERLAYS);
+        let [number, one, two, three] = left.answer.numbers();
         writeln!(text, "T {room} {number} {one} {two} {three}").unwrap();
     }
     text.push_str(&release);
@@ -249,6 +270,12 @@ mod examples;
 
 #[cfg(test)]
 mod noise_examples;
+
+#[cfg(test)]
+mod overlay_checks;
+
+#[cfg(test)]
+mod overlay_examples;
 
 #[cfg(test)]
 mod sheet_examples;

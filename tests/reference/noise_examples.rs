@@ -5,7 +5,7 @@ use super::reference::label::{Forbidden, Label};
 use super::reference::value::{Value, HIGHEST, LOWEST};
 use super::sheet_examples;
 use super::text_examples::lent;
-use super::{draws, label_trials, print_run, step_trials, NO_DRAWS};
+use super::{draws, label_trials, print_run, step_trials, NO_DRAWS, NO_OVERLAYS};
 
 /// N with and without its noise bit, and a chain that add, a sum over two rows
 /// and noise take off, stage by stage.
@@ -48,7 +48,7 @@ fn container(plan: &[Record], columns: usize, cells: &[(i64, u32)]) -> Vec<u8> {
 fn printed(plan: &[Record], cells: &[(i64, u32)], draws: &[i64]) -> String {
     let plan = [&[SCAN], plan].concat();
     let mut text = String::new();
-    print_run(&container(&plan, 1, cells), draws, &mut text);
+    print_run(&container(&plan, 1, cells), draws, NO_OVERLAYS, &mut text);
     text
 }
 
@@ -151,7 +151,8 @@ fn the_column_of_a_refusal() {
     let refused = |word: u32, draws: &[i64]| {
         let mut text = String::new();
         let cells = [(1, 0), (2, 0), (3, word)];
-        print_run(&container(&[SCAN, noise(2), keep(1)], 3, &cells), draws, &mut text);
+        let container = container(&[SCAN, noise(2), keep(1)], 3, &cells);
+        print_run(&container, draws, NO_OVERLAYS, &mut text);
         text.lines().last().unwrap_or_default().to_string()
     };
     assert_eq!(refused(A, &[0]), "X 32 1 0 2");

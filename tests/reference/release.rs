@@ -2,6 +2,7 @@
 
 use super::container::{parse, InputRefusal};
 use super::eval::{evaluate, StateRefusal};
+use super::overlay::{composed, Overlays};
 use super::table::Table;
 use super::text;
 use super::value::Value;
@@ -50,16 +51,17 @@ impl Answer {
     }
 }
 
-/// The input checks alone.
+/// The checks of a container alone, 11 to 20.
 pub fn check(container: &[u8]) -> Result<(), InputRefusal> {
     parse(container).map(|_| ())
 }
 
 /// `draws` is document 02's "lent list of signed draws", #102, empty where there
-/// are none; it is read, and of any length.
+/// are none; it is read, and of any length. So are the overlays, #106.
 pub fn run(
     container: &[u8],
     draws: &[i64],
+    overlays: &Overlays,
     work_values: &mut [i64],
     work_labels: &mut [u32],
     work_marks: &mut [u64],
@@ -67,8 +69,8 @@ pub fn run(
     trace: &mut [u32],
     lent_text: &mut [u8],
 ) -> Answer {
-    // 1: "First of all checks; place zeros; nothing changes." The text's slice
-    // and the draws are not among those that it tests.
+    // 1: "First of all checks; place zeros; nothing changes." The text's slice,
+    // the draws and the overlays are not among those that it tests.
     if work_values.len() < WORK_LENGTH
         || work_labels.len() < WORK_LENGTH
         || work_marks.len() < MARKS_LENGTH
@@ -77,7 +79,8 @@ pub fn run(
     {
         return Answer::ShortSlice;
     }
-    let container = match parse(container) {
+    let prepared = parse(container).and_then(|container| composed(container, overlays));
+    let container = match prepared {
         Ok(container) => container,
         Err(refusal) => return Answer::Input(refusal),
     };

@@ -5,10 +5,10 @@ use super::reference::check;
 use super::reference::table::{distinct, Mark};
 use super::reference::value::{HIGHEST, LOWEST};
 use super::text_examples::lent;
-use super::{label_trials, print_run, step_trials, NO_DRAWS};
+use super::{label_trials, print_run, step_trials, NO_DRAWS, NO_OVERLAYS};
 
 /// Columns, byte 1 and cells.
-type Given<'a> = (usize, u8, &'a [(i64, u32)]);
+pub type Given<'a> = (usize, u8, &'a [(i64, u32)]);
 
 pub fn container(plan: &[Record], tables: &[Given]) -> Vec<u8> {
     let mut parts = vec![plan.concat()];
@@ -32,15 +32,15 @@ pub fn container(plan: &[Record], tables: &[Given]) -> Vec<u8> {
     bytes
 }
 
-fn scan(table: u8) -> Record {
+pub fn scan(table: u8) -> Record {
     record(1, table, 0, 0, 0)
 }
 
-fn union() -> Record {
+pub fn union() -> Record {
     record(2, 0, 0, 0, 0)
 }
 
-fn join(left: u8, right: u8) -> Record {
+pub fn join(left: u8, right: u8) -> Record {
     record(3, left, right, 0, 0)
 }
 
@@ -49,7 +49,7 @@ const COUNT: u32 = 0x2001_0000;
 const SUM: u32 = 0x2002_0000;
 const AVG: u32 = 0x2010_0000;
 
-fn group(keys: u8, aggregate: u8, column: u8) -> Record {
+pub fn group(keys: u8, aggregate: u8, column: u8) -> Record {
     record(7, keys, aggregate, column, 0)
 }
 
@@ -61,7 +61,7 @@ fn sum() -> Record {
 /// What is printed of a plan.
 fn printed(plan: &[Record], tables: &[Given]) -> String {
     let mut text = String::new();
-    print_run(&container(plan, tables), &[0; 20], &mut text);
+    print_run(&container(plan, tables), &[0; 20], NO_OVERLAYS, &mut text);
     text
 }
 
@@ -71,7 +71,7 @@ fn answered(plan: &[Record], tables: &[Given]) -> String {
 }
 
 /// Values 1, 2, 3 and on with this label, each beside its sheet number.
-fn on_sheets(label: u32, numbers: &[i64]) -> Vec<(i64, u32)> {
+pub fn on_sheets(label: u32, numbers: &[i64]) -> Vec<(i64, u32)> {
     (1..).zip(numbers).flat_map(|(value, &number)| [(value, label), (number, 0)]).collect()
 }
 

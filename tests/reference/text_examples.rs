@@ -4,10 +4,10 @@ use super::examples::printed_case;
 use super::reference::release::{
     MARKS_LENGTH, OUTPUT_LENGTH, TEXT_LENGTH, TRACE_LENGTH, WORK_LENGTH,
 };
-use super::reference::run;
 use super::reference::text;
 use super::reference::value::{HIGHEST, LOWEST};
-use super::{export, print_texts, NO_DRAWS};
+use super::reference::{run, Overlays};
+use super::{export, print_texts, NO_DRAWS, NO_OVERLAYS};
 
 /// In the printed case the sum needs two rows; with the second it lacks one.
 const RELEASED: u32 = 0x2002_0002;
@@ -94,8 +94,12 @@ pub fn lent(room: usize) -> Lent {
 
 impl Lent {
     pub fn run(&mut self, container: &[u8], draws: &[i64]) -> [u32; 4] {
+        self.run_under(NO_OVERLAYS, container, draws)
+    }
+
+    pub fn run_under(&mut self, overlays: &Overlays, container: &[u8], draws: &[i64]) -> [u32; 4] {
         let Lent { values, labels, marks, output, trace, text } = self;
-        run(container, draws, values, labels, marks, output, trace, text).numbers()
+        run(container, draws, overlays, values, labels, marks, output, trace, text).numbers()
     }
 
     /// Work memory is zero, and the trace begins with these lines.

@@ -12,9 +12,9 @@ CUT = "is not cut1 to cut6, cut with the digits that it must take off"
 FIELD = "is no field with its number, each once; the fields are kind a b c d spare constant"
 NAME = "a container is begun by 'container' and one name of a to z, 0 to 9 and _, of at most 100 characters"
 TOO_MUCH = "makes more than 16,777,216 bytes and repeated characters to here"
-BLAME = "the output was changed, is not that of CONTAINER, or is misread by this script"
+BLAME = "the output was changed, is not that of CONTAINER without overlays, or is misread by this script"
 TABLE = "a table is begun by 'table' and its number of columns, as in 'table 2', and with sheet numbers in its column 0 'table 2 sheets 0'"
-ANSWERS = "'answers check', 'answers run' or 'answers noise' stands before the first container"
+ANSWERS = "'answers check', 'answers run', 'answers noise' or 'answers overlays' stands before the first container"
 SCALE = "is not a number above 0, as 3, 1/2 or 2.5, of at most 9 and 9 digits; -h prints help"
 
 # Rows of a table of one column, in line 6 of ROW_TEXT.
@@ -135,6 +135,8 @@ STEPS = [
     ("STEP kind=9", f"step 1, a record of kind 9: kind 9 does not exist; they are 1 to 8 (17 at byte 34; {MEANT})"),
     ("answers check", ANSWERS),
     ("draws", "'draws' stands only in a text that begins with 'answers noise'"),
+    ("overlay", "'overlay' stands only in a text that begins with 'answers overlays'"),
+    ("labels", "'labels' stands only behind 'overlay'"),
 ]
 
 # Whole texts, each with the line that the message names.
@@ -148,7 +150,7 @@ TEXTS = [
     ("container a b\n", 1, f"'container a b': {NAME}"),
     (GOOD_TEXT * 2, 7, "there is another container 'a'"),
     ("answers\n" + GOOD_TEXT, 1, ANSWERS),
-    ("answers maybe\n" + GOOD_TEXT, 1, "'maybe' is no kind of answers; there are check run noise"),
+    ("answers maybe\n" + GOOD_TEXT, 1, "'maybe' is no kind of answers; there are check run noise overlays"),
     ("answers noise\n" + GOOD_TEXT, 2, "a has no section 'draws', which may be empty"),
     ("answers noise\n" + GOOD_TEXT + "draws\ndraws\n", 9, "a has its draws already"),
     ("answers noise\n" + GOOD_TEXT + "draws 5\n", 8, "the section 'draws' is begun by a line with this word alone"),
@@ -161,7 +163,7 @@ TEXTS = [
     ("answers noise\n" + GOOD_TEXT + "draws\n" + f"  repeat 1000: {'5 ' * 900}\n", 9, f"the text {TOO_MUCH}"),
     ("container a\nplan\n", 1, "a has no comment, a line with # that says what it shows"),
     ("container a\n# x\n", 1, "a has no plan"),
-    ("container a\n# x\n5\n", 3, "'5' stands before the first section; sections are plan table part raw damage draws answer"),
+    ("container a\n# x\n5\n", 3, "'5' stands before the first section; sections are plan table part raw damage draws overlay labels answer"),
     ("container a\n# x\nplan\n  SCAN 0\n", 1, "a has no table"),
     ("container a\n# x\ntable 1\n  5\n", 1, "a has no plan; its section comes before the tables"),
     ("container a\n# x\ntable 1\n  5\nplan\n", 5, "the plan is the first part, and there is one"),
@@ -223,7 +225,7 @@ TEXTS = [
     (GOOD_TEXT + "damage\n  offset 9 5\n", 8, "byte 77 is past the end"),
     (GOOD_TEXT + "damage\n  rows 1 5\n", 8, "the table '1' is not between 0 and 0"),
     (GOOD_TEXT + "damage\n  append zeros 131072\n", 8, "a has more than 131,072 bytes"),
-    (GOOD_TEXT + "damage\n" + "  count 2\n" * 101, 108, "a container has at most 100 lines of damage"),
+    (GOOD_TEXT + "damage\n" + "  count 2\n" * 101, 108, "there are more than 100 lines of damage"),
     (GOOD_TEXT + "answer\n" + f"  repeat 1000: {'x' * 4000}\n" * 5, 12, f"the text {TOO_MUCH}"),
     (GOOD_TEXT + "answer\n" + "  repeat 1000: R 5\n" * 300, 258, f"the text {TOO_MUCH}"),
     ("#" * (4 * 2**20 + 1), None, "it has more than 4,194,304 bytes"),
@@ -232,6 +234,45 @@ TEXTS = [
         512,
         f"the text {TOO_MUCH}",
     ),
+]
+
+# Overlays of a container with two tables, of one column and of two with sheet numbers in the first; they begin in line 11.
+OVERLAY_TEXT = "answers overlays\ncontainer a\n# x\nplan\n  SCAN 0\ntable 1\n  5\ntable 2 sheets 0\n  6 7\noverlay\n"
+OVERLAYS = [
+    ("labels\n  H\n", 10, f"overlay 0: its count is 1, and the container has 2 tables (21 at byte 0; {MEANT})"),
+    ("labels\n  H\n  H\nlabels clear\n", 11, f"overlay 0: the labels of table 0 have 12 bytes, and 1 row of 1 column need 8 (21 at byte 18; {MEANT})"),
+    ("labels clear\nlabels\n", 12, f"overlay 0: the labels of table 1 have 4 bytes, and 1 row of 2 columns need 12 (21 at byte 26; {MEANT})"),
+    (
+        "labels\n  00000001\nlabels clear\n",
+        12,
+        f"overlay 0: table 0, row 0, column 0 has the label 00000001: it has a group minimum, 1, and A (bit 29) is absent (22 at byte 22; {MEANT})",
+    ),
+    (
+        "overlay\nlabels clear\nlabels\n  A(sum,2) .\n",
+        14,
+        f"overlay 1: table 1, row 0, column 0 is a sheet number, and its label here is A(sum,2) and not zero (22 at byte 30; {MEANT})",
+    ),
+    ("labels\n  H H\n", 12, "a row of 2 labels for a table of 1 column"),
+    ("labels clear\nlabels\n  .\n", 13, "a row of 1 label for a table of 2 columns"),
+    ("labels clear\nlabels clear\nlabels\n", 13, "there is no section 'table' for table 2, whose labels these would be"),
+    ("labels\n  0\n", 12, f"'0' {LABEL}"),
+    ("labels\n  5:H\n", 12, "'5:H' is no stage; the stages are H, T(..), A(..) and N(..)"),
+    ("labels\n  A(sum, 2)\n", 12, f"'A(sum,' {BRACKET}"),
+    ("labels none\n", 11, "labels are begun by 'labels', or as a whole given by 'labels clear'"),
+    ("labels clear 5\n", 11, "labels are begun by 'labels', or as a whole given by 'labels clear'"),
+    ("  H\n", 11, "an overlay has sections 'labels', one for each table of the container"),
+    ("table 1\n", 11, "the plan and the tables stand before the overlays"),
+    ("plan\n", 11, "the plan and the tables stand before the overlays"),
+    ("overlay\n" * 4, 14, "a container has at most 4 overlays"),
+    ("overlay 1\n", 11, "the section 'overlay' is begun by a line with this word alone"),
+    ("labels clear\nraw\n", 12, "'raw' is the whole overlay, so there is no other part"),
+    ("raw\nlabels\n", 12, "'raw' is the whole overlay, so there is no other part"),
+    ("raw\n  5\n", 12, f"'5' is no byte; {PAIRS}"),
+    ("part\n  H\n", 12, "a section 'part' has lines 'bytes 00 FF' and 'zeros 15' alone"),
+    ("labels clear\nlabels clear\ndamage\n  rows 2 5\n", 14, "the table '2' is not between 0 and 1"),
+    ("damage\n  rows 0 5\n", 12, "overlay 0 has no table"),
+    ("labels clear\ndamage\n  append zeros 131072\n", 13, "overlay 0 has more than 131,072 bytes"),
+    ("draws\n", 11, "'draws' stands only in a text that begins with 'answers noise'"),
 ]
 
 # Outputs of the printed case, damaged; `explain CONTAINER` reads them. What the monitor prints for it:
@@ -278,6 +319,7 @@ WITH_CONTAINER = [
     (PRINTED + "X 51 2 0 0\n", "line 4: it is a refusal, and stands behind a released row"),
     ("X 15 46\n", f"line 1: it is refusal 15 at 46, and by the container the line of step 0 stands here: {BLAME}"),
     ("X 15 701\n", f"line 1: it is refusal 15 at 701, and by the container the line of step 0 stands here: {BLAME}"),
+    ("X 21 0\n", f"line 1: it is refusal 21 at 0, and by the container the line of step 0 stands here: {BLAME}"),
     (PRINTED + "X 36 2 0 1\n", "line 4: it is a refusal, and stands behind a released row"),
     ("printed_case\n" + PRINTED, "line 1: 'printed_case' is no line of the monitor; its lines begin with S, R or X"),
     (PRINTED.replace("\n", "\r\n"), "line 1: it ends in a carriage return: the output was changed on its way"),
@@ -349,6 +391,28 @@ WITH_NOISE = [
     ),
 ]
 
+# Outputs of the printed case under an overlay that asks for 3 sheets, damaged or of another run.
+OVERLAID_TEXT = """answers overlays
+container overlaid
+# x
+plan
+  SCAN 0
+  GROUP 0 sum 1
+table 2
+  7 3:A(sum,2)
+  7 5:A(sum,2)
+overlay
+labels
+  . A(sum,3)
+  . A(sum,3)
+"""
+OVERLAID_BLAME = BLAME.replace("without overlays", "with 1 overlay")
+OVERLAID = [
+    (PRINTED, "line 2: it says 0 stages left, and step 1 of the container, GROUP by column 0, sum of column 1, leaves 1"),
+    ("X 21 10\n", "line 1: it is refusal 21 at 10, and by the container the line of step 0 stands here"),
+    ("X 22 14\n", "line 1: it is refusal 22 at 14, and by the container the line of step 0 stands here"),
+]
+
 # Outputs that cannot be any container's; `explain` reads them without one.
 ALONE = [
     ("\n", "line 1: '' is no line of the monitor; its lines begin with S, R or X"),
@@ -374,7 +438,16 @@ ALONE = [
     ("X 17 19\n", "line 1: refusal 17 cannot stand at byte 19"),
     ("X 20 17\n", "line 1: refusal 20 cannot stand at byte 17"),
     ("X 20 1 0 0\n", "line 1: the place of refusal 20 is one number"),
-    ("X 21 34\n", "line 1: refusal 21 does not exist"),
+    ("X 21 1\n", "line 1: refusal 21 cannot stand at byte 1"),
+    ("X 21 6\n", "line 1: refusal 21 cannot stand at byte 6"),
+    ("X 21 11\n", "line 1: refusal 21 cannot stand at byte 11"),
+    ("X 21 65538\n", "line 1: refusal 21 cannot stand at byte 65538"),
+    ("X 21 0 0 0\n", "line 1: the place of refusal 21 is one number"),
+    ("X 22 10\n", "line 1: refusal 22 cannot stand at byte 10"),
+    ("X 22 16\n", "line 1: refusal 22 cannot stand at byte 16"),
+    ("X 22 65534\n", "line 1: refusal 22 cannot stand at byte 65534"),
+    ("S 0 1 1 1 0\nX 22 14\n", "line 2: refusal 22 comes before the first step, and a step is finished"),
+    ("X 23 34\n", "line 1: refusal 23 does not exist"),
     ("X 12\n", "line 1: the place of refusal 12 is one number"),
     ("X 31 1 0\n", "line 1: the place of refusal 31 is three numbers"),
     ("X 99 0\n", "line 1: refusal 99 does not exist"),
@@ -425,6 +498,9 @@ COMMANDS = [
     ("container show MISSING", None, 2, "container: MISSING: No such file or directory"),
     ("container show FOLDER", None, 2, "container: FOLDER: Is a directory"),
     ("container show /dev/zero", None, 2, "container: /dev/zero: it has more than 131,072 bytes, so it is no container"),
+    ("container show CONTAINER /dev/zero", None, 2, "container: /dev/zero: it has more than 131,072 bytes, so it is no overlay"),
+    ("container show CONTAINER MISSING", None, 2, "container: MISSING: No such file or directory"),
+    ("container show a b c d e f", None, 2, "container: 'show' has 1 or 2 or 3 or 4 or 5 words behind it and not 6; -h prints help"),
     ("container label T(cut1,cut4)", None, 2, "container: in 'T(cut1,cut4)' cut stands twice"),
     ("container label 0", None, 2, f"container: '0' {LABEL}"),
     ("explain --fast", "OUTPUT", 2, "explain: '--fast' is no option; -h prints help"),
@@ -439,8 +515,24 @@ COMMANDS = [
         "OUTPUT",
         1,
         "explain: line 1: it is the line of step 0, and by the container refusal 11 at 0 stands here:"
-        " the output was changed, is not that of TEXT, or is misread by this script",
+        " the output was changed, is not that of TEXT without overlays, or is misread by this script",
     ),
+    ("explain --overlay", "OUTPUT", 2, "explain: '--overlay' has a file behind it; -h prints help"),
+    ("explain --overlay --overlay CONTAINER", "OUTPUT", 2, "explain: '--overlay' has a file behind it; -h prints help"),
+    ("explain CONTAINER --overlay", "OUTPUT", 2, "explain: '--overlay' has a file behind it; -h prints help"),
+    ("explain --overlay TEXT", "OUTPUT", 2, "explain: an overlay is of a container, and no container is named; -h prints help"),
+    ("explain" + " --overlay TEXT" * 5 + " CONTAINER", "OUTPUT", 2, "explain: there are at most 4 overlays, and not 5; -h prints help"),
+    ("explain --overlay MISSING CONTAINER", "OUTPUT", 2, "explain: MISSING: No such file or directory"),
+    ("explain --overlay FOLDER CONTAINER", "OUTPUT", 2, "explain: FOLDER: Is a directory"),
+    ("explain --overlays TEXT CONTAINER", "OUTPUT", 2, "explain: '--overlays' is no option; -h prints help"),
+    (
+        "explain --overlay CONTAINER CONTAINER",
+        "OUTPUT",
+        1,
+        "explain: line 1: it is the line of step 0, and by the container refusal 21 at 0 stands here:"
+        " the output was changed, is not that of CONTAINER with 1 overlay, or is misread by this script",
+    ),
+    ("explain --overlay /dev/zero CONTAINER", "OUTPUT", 1, None),
     ("explain /dev/zero", "OUTPUT", 1, None),
     ("draws", None, 2, "draws: there are two words, COUNT and SCALE, and not 0; -h prints help"),
     ("draws 5", None, 2, "draws: there are two words, COUNT and SCALE, and not 1; -h prints help"),

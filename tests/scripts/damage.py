@@ -5,7 +5,7 @@ WORDS = (
     "5: 5:A(sum,2) 5:A(10,sum) T(cut1,cut4) T() H+ 20030000 -1 0 00 01067 0x10 1_000 9999999999999999999999 {i} {i/0} {i*9+1} "
     "repeat repeat 3: 999999: with d=1 STEP kind=9 bytes 00 FF zeros 70000 SCAN UNION JOIN FILTER KEEP APPLY GROUP count sum avg "
     "column = <= cut band add plan table 2 part raw damage answer answers check container append truncate offset X S R 31 35 ; # "
-    "NOISE draws noise N(noise) 37 sheets 20 "
+    "NOISE draws noise N(noise) 37 sheets 20 overlay overlays labels clear . 21 22 "
     "\u0663 \u00a0 ( ) , : +"
 ).split(" ")
 CHARACTERS = "0123456789:;(),+-{}#=SRXHTAN \n\t\r\x00\u00e9\u2028"
@@ -174,8 +174,8 @@ def closing_step(rng, stack):
     return "KEEP 0", stack[:-1] + [1]
 
 
-def right_text(rng, name, noise=0.05):
-    """The text of a container that passes the input checks."""
+def right_lines(rng, name, noise):
+    """The lines of a container that passes the input checks, and the lines of each of its tables."""
     tables = [table(rng, rng.random() < 0.8) for _ in range(rng.randint(1, 3))]
     widths = [columns for columns, _ in tables]
     plan, stack = [], []
@@ -188,7 +188,44 @@ def right_text(rng, name, noise=0.05):
     lines = [f"container {name}", "# generated", "plan", *plan]
     for _, rows in tables:
         lines += rows
-    return "\n".join(lines) + "\n"
+    return lines, [rows for _, rows in tables]
+
+
+def right_text(rng, name, noise=0.05):
+    """The text of a container that passes the input checks."""
+    return "\n".join(right_lines(rng, name, noise)[0]) + "\n"
+
+
+def labels_for(rng, table):
+    """The lines of an overlay's part for the table of these lines. Few cells have a label, and no sheet number."""
+    begun, *rows = table
+    _, columns, *sheets = begun.split()
+    often = rng.choice((0, 0.1, 0.5))
+
+    def label(column):
+        labelled = sheets[1:] != [str(column)] and rng.random() < often
+        return rng.choice(LABELS) or "." if labelled else "."
+
+    return ["labels", *("  " + " ".join(label(column) for column in range(int(columns))) for _ in rows)]
+
+
+def overlay_for(rng, tables):
+    """The lines of an overlay for tables: empty, right, or, now and then, with a byte or its end wrong."""
+    if rng.random() < 0.3:
+        return ["overlay"]
+    lines = ["overlay", *(line for table in tables for line in labels_for(rng, table))]
+    if rng.random() < 0.1:
+        at = rng.randrange(2 + 12 * len(tables))
+        lines += ["damage", rng.choice((f"  bytes {at} {rng.randrange(256):02X}", f"  truncate {at}", "  append 00"))]
+    return lines
+
+
+def overlaid_text(rng, name):
+    """The text of a right container with up to four overlays, and of the same with the overlays in reverse order, under the name 'reversed'."""
+    lines, tables = right_lines(rng, name, 0.05)
+    overlays = [overlay_for(rng, tables) for _ in range(4)]
+    texts = [[*lines, *sum(overlays, [])], ["container reversed", *lines[1:], *sum(reversed(overlays), [])]]
+    return "answers overlays\n" + "".join("\n".join(text) + "\n" for text in texts)
 
 
 def draws(rng):

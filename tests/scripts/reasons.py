@@ -319,3 +319,117 @@ INPUT = [
     (["SCAN 0"], ["table 1", "5:00800000"], "has the label 00800000: it allows noise at N, and N (bit 28) is absent."),
     (["SCAN 0"], ["table 1", "5:80402000"], "has the label 80402000: bits 22, 21, 15, 14 and 13 are zero, and here 22, 13 are not."),
 ]
+
+# The lines of the plan, of the tables and of the overlays, and the sentence. First runs that end in a refusal because of the state.
+OVERLAID = [
+    (
+        ["SCAN 0", "GROUP 0 sum 1"],
+        ["table 2", "7 3:A(sum,2)", "7 5:A(sum,2)"],
+        ["overlay", "labels", ". .", ". A(count,sum,3)"],
+        "has 2 sheets; A(sum,3) asks for 3."
+        " The label of row 1, column 1 of table 0 is composed of A(sum,2) in the container and A(count,sum,3) in overlay 0.\n",
+    ),
+    (
+        ["SCAN 0", "GROUP 0 sum 1"],
+        ["table 2", "7 3:A(sum,4)", "7 5:A(sum,4)"],
+        ["overlay", "labels", ". .", ". A(sum,3)"],
+        "Step 1, group 0, first row: row 0 of table 0, has 2 sheets; A(sum,4) asks for 4.\nNothing",
+    ),
+    (
+        ["SCAN 0", "APPLY 0 cut 1", "GROUP sum 1"],
+        ["table 1", "50:T(cut1)", "60:T(cut1)"],
+        ["overlay", "labels clear", "overlay", "labels", "A(sum,5)", "A(sum,5)"],
+        "A(sum,5) asks for 5. The label of row 0, column 0 of table 0 is composed of T(cut1) in the container and A(sum,5) in overlay 1.",
+    ),
+    (
+        ["SCAN 0"],
+        ["table 1", "5:A(sum,2)"],
+        ["overlay", "labels", "T(add)", "overlay", "labels", "A(max,3)", "overlay", "labels", "N()", "overlay", "labels", "H"],
+        "It is row 0, column 0 of table 0 under its overlays, labelled H+T(add)+A(3)+N(): no step removes H, so no APPLY, GROUP or NOISE may use"
+        " the cell, and it is never released. The label of row 0, column 0 of table 0 is composed of A(sum,2) in the container, T(add) in overlay 0,"
+        " A(max,3) in overlay 1, N() in overlay 2 and H in overlay 3. KEEP drops the column where it is not to be published.",
+    ),
+    (
+        ["SCAN 0", "FILTER 0 > 4"],
+        ["table 1", "5"],
+        ["overlay", "labels", "T(band)"],
+        "labelled T(band): T(band) asks for an APPLY of band. The label of row 0, column 0 of table 0 is T(band) in overlay 0; in the container the"
+        " cell is clear.",
+    ),
+    (
+        ["SCAN 0", "FILTER 0 > 4"],
+        ["table 2", "5:H 6"],
+        ["overlay", "labels", ". H"],
+        "It is row 0, column 0 of table 0 as the container has it, labelled H: no step removes H,",
+    ),
+    (
+        ["SCAN 1", "GROUP sum 0"],
+        ["table 1", "5", "table 1", "6:A(sum,2)", "7"],
+        ["overlay", "labels", "H", "labels", ".", "T(add,cut2)"],
+        "It is row 1, column 0 of table 1 under its overlays, labelled T(add,cut2): first APPLY add or APPLY cut by at least 2 digits, then GROUP with"
+        " the column that the APPLY appends. The label of row 1, column 0 of table 1 is T(add,cut2) in overlay 0; in the container the cell is clear.",
+    ),
+    (
+        ["SCAN 0", "APPLY 0 add column 1"],
+        ["table 2", "5 6"],
+        ["overlay", "overlay", "labels", ". N(noise)", "overlay", "labels", ". N()"],
+        "Overlays 0 and 3 are empty files, and so no overlays.\nStep 0, SCAN of table 0: 1 row of 2 columns, 1 stage left.\n",
+    ),
+    (
+        ["SCAN 0", "APPLY 0 add column 1"],
+        ["table 2", "5 6"],
+        ["overlay", "overlay", "labels", ". N(noise)", "overlay", "labels", ". N()", "overlay", "labels clear"],
+        "Overlay 0 is an empty file, and so no overlay.\nStep 0,",
+    ),
+    (
+        ["SCAN 0", "APPLY 0 add column 1"],
+        ["table 2", "5 6"],
+        ["overlay", "overlay", "labels", ". N(noise)", "overlay", "labels", ". N()"],
+        "labelled N(): N() allows nothing, so no step removes it, and neither the cell nor what is made of it is released. The label of row 0,"
+        " column 1 of table 0 is composed of N(noise) in overlay 1 and N() in overlay 2; in the container the cell is clear.",
+    ),
+    (
+        ["SCAN 0", "NOISE 0"],
+        ["table 1", "5:N(noise)"],
+        ["overlay", "labels", "A(sum,2)"],
+        "labelled A(sum,2)+N(noise): first GROUP with sum over at least 2 sheets, then NOISE on the column that the GROUP appends. The label of row 0,"
+        " column 0 of table 0 is composed of N(noise) in the container and A(sum,2) in overlay 0.",
+    ),
+]
+# Overlays that are refused.
+OVERLAYS_REFUSED = [
+    (["overlay", "raw", "02"], "An overlay is refused (21) at its byte 0: its length, its count, its directory, or the header or length of a part"),
+    (["overlay", "raw", "02"], "Overlay 0: it has 1 byte, and its count alone needs 2."),
+    (["overlay", "raw", "02 00"], "Overlay 0: it has 2 bytes, and the directory for 2 tables ends at 18."),
+    (["overlay", "raw", "zeros 65537"], "Overlay 0: it has more than 65,536 bytes."),
+    (["overlay", "labels", "H"], "Overlay 0: its count is 1, and the container has 2 tables."),
+    (["overlay", "overlay", "labels", "H"], "Overlay 1: its count is 1, and the container has 2 tables."),
+    (
+        ["overlay", "labels", "H", "labels clear", "damage", "offset 0 17"],
+        "An overlay is refused (21) at its byte 2: its length, its count, its directory, or the header or length of a part does not fit the container.\n"
+        "Overlay 0: the labels of table 0 are said to begin at 17, and the directory ends at 18.",
+    ),
+    (
+        ["overlay", "labels", "H", "labels clear", "damage", "length 0 9"],
+        "Overlay 0: the labels of table 1 are said to begin at 26, and those of table 0 end at 27.",
+    ),
+    (["overlay", "labels", "H", "labels clear", "damage", "append 00"], "Overlay 0: the labels of table 1 are said to end at 38, and the overlay ends at 39."),
+    (["overlay", "labels", "labels clear"], "Overlay 0: the labels of table 0 have 4 bytes, and 1 row of 1 column need 8."),
+    (
+        ["overlay", "labels clear", "labels clear", "damage", "columns 0 2"],
+        "Overlay 0: the labels of table 0 have another header than the table: 2 and not 1 for the columns.",
+    ),
+    (
+        ["overlay", "labels clear", "labels clear", "damage", "bytes 27 00", "rows 1 256"],
+        "Overlay 0: the labels of table 1 have another header than the table: 0 and not 1 for byte 1, 256 and not 1 for the rows.",
+    ),
+    (
+        ["overlay", "labels", "00000001", "labels clear"],
+        "An overlay is refused (22) at its byte 22: a label is ill-formed, or not zero in a column of sheet numbers.\n"
+        "Overlay 0: table 0, row 0, column 0 has the label 00000001: it has a group minimum, 1, and A (bit 29) is absent.",
+    ),
+    (
+        ["overlay", "labels clear", "labels", "T(add) ."],
+        "Overlay 0: table 1, row 0, column 0 is a sheet number, and its label here is T(add) and not zero.",
+    ),
+]

@@ -1,12 +1,12 @@
 """Makes containers from readable text, and text from containers. docs/CONTAINER.md describes both.
 
-    container make TEXT DIR                     writes a file for each container of TEXT into DIR, and one for its draws, where TEXT
-                                                has them
+    container make TEXT DIR                     writes a file for each container of TEXT into DIR, and one for its draws or four for
+                                                its overlays, where TEXT has them
     container verify TEXT DIR [NAMES [ANSWERS]] sees whether the files of DIR are those that TEXT makes, and whether the files NAMES
                                                 and ANSWERS are what 'names' and 'expect' print
     container names TEXT                        prints the files' names, one to a line
     container expect TEXT                       prints the answers that TEXT expects, as the trial programs do
-    container show FILE                         prints the container FILE as text
+    container show FILE [OVERLAY..]             prints the container FILE as text, with at most four overlays
     container label WORD                        explains a label: eight hexadecimal digits, or stages as 'T(cut3)+A(sum,20)'
     container -h                                prints this help
 
@@ -67,8 +67,8 @@ def expect(path):
     return 0, Text(path).expected()
 
 
-def show(path):
-    return 0, shown(path)
+def show(path, *overlay_paths):
+    return 0, shown(path, *overlay_paths)
 
 
 def label(word):
@@ -86,7 +86,7 @@ COMMANDS = {
     "verify": (verify, (2, 3, 4)),
     "names": (names, (1,)),
     "expect": (expect, (1,)),
-    "show": (show, (1,)),
+    "show": (show, (1, 2, 3, 4, 5)),
     "label": (label, (1,)),
 }
 

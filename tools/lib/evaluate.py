@@ -291,7 +291,8 @@ def draws_used(lines):
 
 
 def evaluate(plan, tables, told=Told()):
-    """The plan of an accepted container over its tables, to the release, the refusal, or a step whose rows the draws decide."""
+    """The plan of an accepted container over its tables with their composed labels, to the release, the refusal, or a step whose rows the
+    draws decide."""
     lines, stack, refusal = [], [], None
     for k, step in enumerate(plan):
         refusal, made = MAKERS[step.kind](step, k, Given(tables, told.draws - draws_used(lines)), stack)

@@ -9,7 +9,8 @@ from words import plural
 
 LONGEST_OUTPUT = 65536  # bytes; 64 lines S and 256 lines R are shorter
 
-INPUT = range(11, 21)  # refusals with a byte offset
+INPUT = range(11, 23)  # refusals with a byte offset
+OVERLAY = (21, 22)  # those of them whose offset is in an overlay
 NO_DRAW = 37  # no draw is left for a row
 NO_ROOM = 51  # the text of a release has no room
 STATE = (1, *range(31, 38), NO_ROOM)  # refusals with a step, a row and a column
@@ -208,6 +209,9 @@ def input_place_fault(number, place):
     }
     fits[18] = fits[17] or any(place == end + STEPS * steps.LENGTH for end in ends)
     fits[19] = fits[17]
+    # an overlay's pairs, parts and labels; the first part begins at 10 or later
+    fits[21] = place in (0, 2) or place % 4 == 2 and 10 <= place <= LONGEST
+    fits[22] = place % 4 == 2 and 14 <= place <= LONGEST - 4
     lowest = ends[0] + {13: 0, 14: 4, 15: 12}.get(number, 0)
     if not fits.get(number, lowest <= place <= LONGEST):
         return f"refusal {number} cannot stand at byte {place}"

@@ -1,8 +1,9 @@
-"""A container as the scripts read it themselves, and whether an output is the one that this reading gives."""
+"""A container and its overlays as the scripts read them themselves, and whether an output is the one that this reading gives."""
 from itertools import zip_longest
 
 import evaluate
 import layout
+import overlays
 import steps
 from console import plain, read_file
 from printed import AT_RELEASE, NO_DRAW, NO_ROOM, Line, Misfit
@@ -29,15 +30,24 @@ def told(lines):
 
 
 class Reading:
-    """A container's file: why its input is refused, or its plan, its tables and, once it was evaluated, the evaluation."""
+    """A container's file and those of its overlays: why the input is refused, or the plan, the tables with the labels that the overlays leave
+    them, and, once it was evaluated, the evaluation."""
 
-    def __init__(self, path):
-        self.path = plain(path)
-        data = read_file(path, layout.LONGEST)
-        self.refusal = layout.check(data)
+    def __init__(self, path, overlay_paths=()):
+        data, self.overlays = read_file(path, layout.LONGEST), [read_file(one, overlays.LONGEST) for one in overlay_paths]
+        with_overlays = f"with {plural(len(self.overlays), 'overlay')}" if self.overlays else "without overlays"
+        self.name = f"{plain(path)} {with_overlays}"
+        self.refusal = layout.check(data) or overlays.check(data, self.overlays)
         self.plan, self.tables, self.result = [], [], None
         if self.refusal is None:
-            self.plan, self.tables = layout.contents(data)
+            self.plan, self.given_tables = layout.contents(data)
+            self.labels = overlays.Labels(self.overlays)
+            self.tables = self.labels.composed(self.given_tables)
+
+    def shares(self, source):
+        """What the label of a table's cell is composed of: the container's and, of the overlays, each that is not zero."""
+        _, label = self.given_tables[source.table].rows[source.row][source.column]
+        return [overlays.Share(None, label), *self.labels.over(source.table, source.row, source.column)]
 
     def evaluated(self, told):
         """The same after the evaluation, where this is told of the draws."""
@@ -133,5 +143,5 @@ def fitted(lines, reading):
     wanted_lines = reading.lines(room) + ([] if reading.settled() else reading.open_lines(lines))
     for count, (line, wanted) in enumerate(zip_longest(lines, wanted_lines), 1):
         if not same(line, wanted):
-            blame = f"the output was changed, is not that of {reading.path}, or is misread by this script"
+            blame = f"the output was changed, is not that of {reading.name}, or is misread by this script"
             raise Misfit(count, f"{difference(line, wanted, reading)}: {blame}")

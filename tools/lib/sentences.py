@@ -3,7 +3,7 @@ import labels
 import steps
 from evaluate import LONGEST_TEXT, FromApply, FromNoise, FromTable, TableRow
 from evaluate import cut_digits, drawn, draws_used, evaluate, joined_count, text_of
-from printed import AT_RELEASE
+from printed import AT_RELEASE, OVERLAY
 from words import plural
 
 # What a refusal says of itself where the container is not at hand. docs/REFUSALS.md has the same numbers.
@@ -18,6 +18,8 @@ INPUT = {
     18: "a step finds too few tables or one too many, or the plan does not leave one table",
     19: "a step names a table or column that does not exist, unequal widths or too many columns",
     20: "a table's sheet numbers are wrong",
+    21: "its length, its count, its directory, or the header or length of a part does not fit the container",
+    22: "a label is ill-formed, or not zero in a column of sheet numbers",
 }
 STATE = {
     1: "the program lent the monitor too little memory, and nothing was read",
@@ -59,6 +61,9 @@ ACTIONS = {
     18: "Ask the analyst to mend the plan.",
     19: "Ask the analyst to mend the plan.",
     20: "Ask whoever wrote the table to correct its sheet numbers. Never have it sent without them: each row would then count as a sheet.",
+    21: "See that it is the overlay for this container and send it again, byte for byte. If it is refused again, ask whoever wrote it for"
+    " a new one. Never run the report without it.",
+    22: "Ask whoever wrote the overlay to write this label again. Never run the report without the overlay.",
     31: "Ask the analyst to change the plan. Never ask for the label to be taken off.",
     32: "Ask the analyst to change the plan. Never ask for the label to be taken off.",
     33: "Ask the analyst to change the plan. Never ask for the label to be taken off.",
@@ -123,22 +128,59 @@ def group_reason(step, label, sheets):
     return ", and ".join(reasons) or f"A is gone; {labels.asks(labels.without_a(label), 'N')}"
 
 
-def left_on(cell, plan):
+def table_cell(cell, plan):
+    """The cell of a table from which a cell has its label; of a group's members the first that keeps a stage."""
+    source = cell.source
+    if isinstance(source, FromTable):
+        return cell
+    if isinstance(source, (FromApply, FromNoise)):
+        return table_cell(source.first, plan)
+    return table_cell(kept_member(source, plan), plan)
+
+
+def kept_member(source, plan):
+    """The first member of a group on whose label a stage is left."""
+    return next(member for member in source.members if labels.after_a(member.label, plan[source.step].b, source.sheets))
+
+
+def listed(words):
+    """Words with commas between them and 'and' before the last."""
+    return words[0] if len(words) == 1 else f"{', '.join(words[:-1])} and {words[-1]}"
+
+
+def composition(cell, reading):
+    """What a cell's label is composed of, in a sentence, where an overlay has a share in it."""
+    source = table_cell(cell, reading.plan).source
+    (_, own), *others = reading.shares(source)
+    if not others:
+        return ""
+    shares = [f"{labels.label_text(own)} in the container"] * (own != 0)
+    shares += [f"{labels.label_text(share.label)} in overlay {share.overlay}" for share in others]
+    composed = "composed of " * (len(shares) > 1)
+    clear = "; in the container the cell is clear" * (own == 0)
+    return f" The label of {source_place(source)} is {composed}{listed(shares)}{clear}."
+
+
+def as_it_is(source, reading):
+    """A table's cell, as it is before step 0."""
+    return f"It is {source_place(source)}" + (" under its overlays" if reading.shares(source)[1:] else " as the container has it")
+
+
+def left_on(cell, reading):
     """Why a cell has a label, in a sentence."""
-    source, text = cell.source, labels.label_text(cell.label)
+    source, text, plan = cell.source, labels.label_text(cell.label), reading.plan
     if isinstance(source, FromTable):
         asked = labels.asks(cell.label, labels.highest(cell.label))
-        return f"It is {source_place(source)} as the container has it, labelled {text}: {asked}."
+        return f"{as_it_is(source, reading)}, labelled {text}: {asked}."
     step = plan[source.step]
     if isinstance(source, (FromApply, FromNoise)):
         made = f"Step {source.step}, {steps.described(step)}, made it of {source_place(source.first.source)}"
         label = source.first.label
         return f"{made}: {apply_reason(step, label) if isinstance(source, FromApply) else labels.asks(label, 'N')}."
     rows, sheets = len(source.members), source.sheets
-    kept = next(member for member in source.members if labels.after_a(member.label, step.b, sheets))
     size = plural(sheets, "sheet") + f" in {rows} rows" * (rows != sheets)
     group = f"Step {source.step}, group {source.group}, first row: {row_place(source.first)}, has {size}"
-    return f"{group}; {group_reason(step, kept.label, sheets)}."
+    return f"{group}; {group_reason(step, kept_member(source, plan).label, sheets)}."
 
 
 def advice(label, kind):
@@ -152,14 +194,14 @@ def advice(label, kind):
     return f"first {ways}, then {use} the column that the {maker} appends"
 
 
-def forbidden(cell, plan, kind):
+def forbidden(cell, reading, kind):
     """What 32 says of a cell: its label, and what to apply before a step of this kind."""
     if not labels.removable(cell.label, labels.highest(cell.label)):
-        return left_on(cell, plan)
+        return left_on(cell, reading)
     text, before = labels.label_text(cell.label), advice(cell.label, kind)
     if isinstance(cell.source, FromTable):
-        return f"It is {source_place(cell.source)} as the container has it, labelled {text}: {before}."
-    return f"{left_on(cell, plan)} The label is {text}: {before}."
+        return f"{as_it_is(cell.source, reading)}, labelled {text}: {before}."
+    return f"{left_on(cell, reading)} The label is {text}: {before}."
 
 
 def too_many(step, stack):
@@ -191,7 +233,7 @@ def no_draw(reading, k, left):
 
 
 class Explained:
-    """The sentences for the lines of an output; `reading` is that of the container, or None."""
+    """The sentences for the lines of an output; `reading` is that of the container and its overlays, or None."""
 
     def __init__(self, lines, reading):
         self.lines, self.reading = lines, reading
@@ -200,13 +242,20 @@ class Explained:
 
     def sentences(self):
         last = self.lines[-1]
-        said = [self.step(*line.numbers) for line in self.lines if line.letter == "S"]
+        said = self.empty_overlays() + [self.step(*line.numbers) for line in self.lines if line.letter == "S"]
         if last.letter == "X":
             return said + self.refused(last.numbers[0], last.numbers[1:])
         rows = [line.numbers for line in self.lines if line.letter == "R"]
         said += [f"Released row {row}: {', '.join(map(str, values))}." for row, values in enumerate(rows)]
         columns = self.lines[len(self.lines) - len(rows) - 1].numbers[3]
         return said + [self.whole(len(rows), columns)]
+
+    def empty_overlays(self):
+        """Which files of overlays are empty: they may have been meant to say something."""
+        empty = [str(number) for number, data in enumerate(self.reading.overlays if self.reading else []) if not data]
+        if len(empty) > 1:
+            return [f"Overlays {listed(empty)} are empty files, and so no overlays."]
+        return [f"Overlay {number} is an empty file, and so no overlay." for number in empty]
 
     def whole(self, rows, columns):
         shape = f"{plural(rows, 'row')} of {plural(columns, 'column')}"
@@ -241,7 +290,8 @@ class Explained:
         return said if self.reading else said + [UNKNOWN]
 
     def refused_input(self, number, place):
-        said = [f"The container is refused ({number}) at byte {place}: {INPUT[number]}."]
+        what = "An overlay is refused ({}) at its byte {}" if number in OVERLAY else "The container is refused ({}) at byte {}"
+        said = [f"{what.format(number, place)}: {INPUT[number]}."]
         if self.reading:
             reason = self.reading.refusal.reason
             said.append(f"{reason[0].upper()}{reason[1:]}.")
@@ -285,9 +335,10 @@ class Explained:
             return no_room(self.result.stack[-1])
         table, at = (-1, row) if number in AT_RELEASE else self.sides(number, k, row)
         cell = self.result.stack[table].rows[at].cells[column]
-        if number == 32:
-            return forbidden(cell, self.plan, self.plan[k].kind)
         if number == 36:
             return over(cell, self.plan)
+        if number == 32:
+            return forbidden(cell, self.reading, self.plan[k].kind) + composition(cell, self.reading)
         raw = number == 35 and isinstance(cell.source, FromTable)
-        return left_on(cell, self.plan) + " KEEP drops the column where it is not to be published." * raw
+        drop = " KEEP drops the column where it is not to be published." * raw
+        return left_on(cell, self.reading) + composition(cell, self.reading) + drop

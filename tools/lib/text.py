@@ -7,6 +7,7 @@ from bisect import bisect_right
 
 import labels
 import layout
+import overlays
 import steps
 from console import Failure, plain, quoted, read_file
 from words import Fault, choice, number, plural
@@ -15,13 +16,16 @@ from words import Fault, choice, number, plural
 LONGEST_TEXT = 4 * 2**20  # bytes of a text
 LONGEST_LINE = 4096  # characters of a line
 MOST_REPEATED = 1000  # lines that one 'repeat' stands for
-LONGEST_MADE = 2 * layout.LONGEST  # bytes of a container, a wrong one too
-MOST_DAMAGE = 100  # directives for a container
+LONGEST_MADE = 2 * layout.LONGEST  # bytes of a container or an overlay, a wrong one too
+MOST_DAMAGE = 100  # directives for a container or an overlay
 LONGEST_OF_ALL = 16 * 2**20  # bytes of all containers of a text, 1,024 for each, and characters of repeated lines, 64 for each
 
-SECTIONS = ("plan", "table", "part", "raw", "damage", "draws", "answer")
-FORMS = ("check", "run", "noise")  # answers of the input checks, of a run without draws, and of a run with the draws of a section
+SECTIONS = ("plan", "table", "part", "raw", "damage", "draws", "overlay", "labels", "answer")
+# answers of the input checks, of a run with the container alone, with the draws of a section, and with overlays
+FORMS = ("check", "run", "noise", "overlays")
+ONLY_IN = {"draws": "noise", "overlay": "overlays"}  # sections that stand in texts of one form alone
 DRAWS = ".draws"  # behind a container's name, the file of its draws
+OVERLAYS = tuple(f".overlay{number}" for number in range(overlays.OVERLAYS))  # the files of its overlays
 LONGEST_DRAW = 21  # bytes of its lines
 PAIRS = "pairs of hexadecimal digits, as in '00 FF'"
 
@@ -103,6 +107,12 @@ def zeros_or_bytes(words):
     return bytes(number(words[1], 0, LONGEST_MADE, "the number of zeros"))
 
 
+def whole_label(text):
+    """Sees that a label was not cut by a space."""
+    if text.count("(") != text.count(")"):
+        raise Fault(f"{quoted(text)} has a bracket without its other one; a label has no spaces")
+
+
 def cell_bytes(text):
     """A cell: its value, or its value, a colon and its label."""
     value, colon, label = text.partition(":")
@@ -111,9 +121,14 @@ def cell_bytes(text):
         raise Fault(f"{quoted(text)} has a colon and no label right behind it; {forms}")
     if colon and not value:
         raise Fault(f"{quoted(text)} has no value before its colon")
-    if text.count("(") != text.count(")"):
-        raise Fault(f"{quoted(text)} has a bracket without its other one; a label has no spaces")
+    whole_label(text)
     return struct.pack("<qI", number(value, what="the value"), labels.label_word(label) if colon else 0)
+
+
+def label_bytes(text):
+    """A label of an overlay: a point for zero, or a label as a cell has it."""
+    whole_label(text)
+    return struct.pack("<I", 0 if text == "." else labels.label_word(text))
 
 
 def cell_text(value, label):
@@ -129,7 +144,7 @@ def table_header(words):
     return columns, 0 if len(words) == 2 else number(words[3], 0, 254, "the column of sheet numbers") + 1
 
 
-# One container
+# A container and its overlays
 
 
 class Part:
@@ -147,6 +162,16 @@ class Part:
         if len(self.body) > LONGEST_MADE:
             raise Fault(f"this part has more than {LONGEST_MADE:,} bytes")
 
+    def add_row(self, words, line, budget):
+        """A row of a table: its cells."""
+        row = b"".join(map(cell_bytes, words))
+        if len(words) != self.columns:
+            raise Fault(f"a row of {plural(len(words), 'cell')} in a table of {plural(self.columns, 'column')}")
+        if self.rows == 65535:
+            raise Fault("this table has more than 65,535 rows")
+        self.add(row, line, budget)
+        self.rows += 1
+
     def header(self):
         return b"" if self.columns is None else struct.pack("<BBH", self.columns, self.byte_1, self.rows)
 
@@ -160,62 +185,58 @@ class Part:
         return self.places[bisect_right(self.places, (place - len(self.header()), 2**62)) - 1][1]
 
 
-class Source:
-    """A container of a text."""
+class Labels(Part):
+    """A part of an overlay: the labels of a table, whose header it has."""
 
-    def __init__(self, name, line, budget):
-        self.name, self.line, self.budget = name, line, budget
-        self.comments, self.answer, self.parts, self.damage = [], [], [], []
-        self.raw, self.draws = None, None
+    def __init__(self, line, table):
+        super().__init__("labels", line)
+        self.table = table
+
+    def add_row(self, words, line, budget):
+        row = b"".join(map(label_bytes, words))
+        if len(words) != self.table.columns:
+            raise Fault(f"a row of {plural(len(words), 'label')} for a table of {plural(self.table.columns, 'column')}")
+        self.add(row, line, budget)
+
+    def header(self):
+        return self.table.header()
+
+
+class Whole:
+    """What a text makes of parts or gives as a whole, and then damages: a container, or an overlay of one."""
+
+    kind = "container"
+
+    def __init__(self, name, first_table, budget):
+        """`first_table` is the part of table 0."""
+        self.name, self.first_table, self.budget = name, first_table, budget
+        self.parts, self.raw, self.damage = [], None, []
 
     # Reading
 
-    def begin(self, words, line):
-        """Begins the section that a line names."""
-        section = words[0]
-        if section == "table":
-            self.add_part(Part("table", line, *table_header(words)))
-        elif len(words) != 1:
-            raise Fault(f"the section '{section}' is begun by a line with this word alone")
-        elif section == "plan" and self.parts:
-            raise Fault("the plan is the first part, and there is one")
-        elif section in ("plan", "part"):
-            self.add_part(Part(section, line))
-        elif section == "raw":
-            if self.parts or self.raw is not None:
-                raise Fault("'raw' is the whole container, so there is no other part")
-            self.raw = Part("raw", line)
-        elif section == "draws":
-            if self.draws is not None:
-                raise Fault(f"{self.name} has its draws already")
-            self.draws = []
+    def begin_raw(self, line):
+        if self.parts or self.raw is not None:
+            raise Fault(f"'raw' is the whole {self.kind}, so there is no other part")
+        self.raw = Part("raw", line)
 
     def add_part(self, part):
         if self.raw is not None:
-            raise Fault("'raw' is the whole container, so there is no other part")
+            raise Fault(f"'raw' is the whole {self.kind}, so there is no other part")
         if len(self.parts) == 65535:
             raise Fault("there are more than 65,535 parts")
         self.parts.append(part)
 
     def add(self, section, line, count):
         """Adds a line to the section that was begun."""
-        if section == "answer":
-            self.answer += repeated(line, self.budget)
-        elif section == "draws":
-            words = [word for one in repeated(line, self.budget) for word in one.split()]
-            self.budget.take(LONGEST_DRAW * len(words))
-            self.draws += [number(word, what="the draw") for word in words]
-        elif section == "raw":
+        if section == "raw":
             self.raw.add(zeros_or_bytes(line.split()), count, self.budget)
         elif section == "damage":
             self.damage.append((count, line.split()))
             if len(self.damage) > MOST_DAMAGE:
-                raise Fault(f"a container has at most {MOST_DAMAGE} lines of damage")
-        elif section in ("plan", "table", "part"):
+                raise Fault(f"there are more than {MOST_DAMAGE} lines of damage")
+        else:
             for one in repeated(line, self.budget):
                 self.add_to_part(self.parts[-1], one, count)
-        else:
-            raise Fault(f"{quoted(line)} stands before the first section; sections are {' '.join(SECTIONS)}")
 
     def add_to_part(self, part, line, count):
         words = line.split()
@@ -226,48 +247,26 @@ class Source:
         elif part.section == "plan":
             for step in line.split(";"):
                 part.add(steps.pack(steps.from_words(step.split())), count, self.budget)
-        elif part.section == "table":
-            self.add_row(part, words, count)
-        else:
+        elif part.section == "part":
             raise Fault("a section 'part' has lines 'bytes 00 FF' and 'zeros 15' alone")
-
-    def add_row(self, part, words, count):
-        row = b"".join(map(cell_bytes, words))
-        if len(words) != part.columns:
-            raise Fault(f"a row of {plural(len(words), 'cell')} in a table of {plural(part.columns, 'column')}")
-        if part.rows == 65535:
-            raise Fault("this table has more than 65,535 rows")
-        part.add(row, count, self.budget)
-        part.rows += 1
+        else:
+            part.add_row(words, count, self.budget)
 
     # Making
 
-    def marked_wrong(self):
-        """Whether the text says that the container is wrong: by what it is made of, or by its answer."""
-        made_wrong = self.raw is not None or self.damage or any(part.section == "part" for part in self.parts)
-        return bool(made_wrong) or bool(self.answer and re.fullmatch("X (1[1-9]|20) [0-9]+", self.answer[0]))
+    def made_wrong(self):
+        """Whether the text marks it as wrong by what it is made of."""
+        return bool(self.raw is not None or self.damage or any(part.section == "part" for part in self.parts))
 
     def made(self):
-        """The container's bytes."""
-        if not self.comments:
-            raise Fault(f"{self.name} has no comment, a line with # that says what it shows")
-        if self.raw is None and not self.parts:
-            raise Fault(f"{self.name} has no plan")
+        """The bytes."""
         whole = bytearray(self.raw.body) if self.raw is not None else self.assembled()
         for line, words in self.damage:
             with at_line(line):
                 whole = self.damaged(whole, words)
         if len(whole) > LONGEST_MADE:
             raise Fault(f"{self.name} has more than {LONGEST_MADE:,} bytes")
-        if not self.marked_wrong():
-            self.check(bytes(whole))
         return bytes(whole)
-
-    def made_draws(self):
-        """The bytes of the file of draws."""
-        if self.draws is None:
-            raise Fault(f"{self.name} has no section 'draws', which may be empty")
-        return "".join(f"{draw}\n" for draw in self.draws).encode()
 
     def assembled(self):
         parts = [part.made() for part in self.parts]
@@ -286,28 +285,11 @@ class Source:
             at += len(part.made())
         return starts
 
-    def check(self, data):
-        """A container that is not marked as wrong passes the input checks."""
-        if self.parts[0].section != "plan":
-            raise Fault(f"{self.name} has no plan; its section comes before the tables")
-        if len(self.parts) == 1:
-            raise Fault(f"{self.name} has no table")
-        refusal = layout.check(data)
-        if refusal is None:
-            return
-        hint = f"{refusal.number} at byte {refusal.place}; what is meant to be wrong says so in its section 'answer'"
-        fault = Fault(f"{refusal.reason} ({hint})")
-        fault.line = self.line_of(refusal)
-        raise fault
-
-    def line_of(self, refusal):
-        if refusal.number < 13:
-            return self.line
-        if refusal.number == 16:
-            return self.parts[0].line
+    def line_in(self, place):
+        """The line that the byte at a place of the parts comes from."""
         starts = self.starts()
-        part = 0 if refusal.number in (17, 18, 19) else bisect_right(starts, refusal.place) - 1
-        return self.parts[part].line_of(refusal.place - starts[part])
+        part = bisect_right(starts, place) - 1
+        return self.parts[part].line_of(place - starts[part])
 
     # Damage
 
@@ -325,10 +307,157 @@ class Source:
 
     def header_at(self, table):
         """Where the header of a table begins."""
-        starts = self.starts()
-        if len(starts) < 2:
+        starts = self.starts()[self.first_table :]
+        if not starts:
             raise Fault(f"{self.name} has no table")
-        return starts[number(table, 0, len(starts) - 2, "the table") + 1]
+        return starts[number(table, 0, len(starts) - 1, "the table")]
+
+
+class Overlay(Whole):
+    """An overlay of a text."""
+
+    kind = "overlay"
+
+    def __init__(self, number, line, budget):
+        super().__init__(f"overlay {number}", 0, budget)
+        self.line = line
+
+    def begin_labels(self, words, line, tables):
+        """Begins the labels of the next table of the container."""
+        if words[1:] not in ([], ["clear"]):
+            raise Fault("labels are begun by 'labels', or as a whole given by 'labels clear'")
+        at = len(self.parts)
+        if at >= len(tables) or tables[at].columns is None:
+            raise Fault(f"there is no section 'table' for table {at}, whose labels these would be")
+        self.add_part(Labels(line, tables[at]))
+        if words[1:]:
+            self.parts[-1].add(bytes(overlays.LABEL * tables[at].rows * tables[at].columns), line, self.budget)
+
+    def made(self):
+        """The bytes; none where there is nothing of the overlay."""
+        return super().made() if self.parts or self.made_wrong() else b""
+
+    def line_of(self, refusal):
+        return self.line_in(refusal.place) if refusal.place >= layout.pair_at(len(self.parts)) else self.line
+
+
+class Source(Whole):
+    """A container of a text, with its draws, its overlays and its answer."""
+
+    def __init__(self, name, line, budget):
+        super().__init__(name, 1, budget)
+        self.line = line
+        self.comments, self.answer, self.draws, self.overlays = [], [], None, []
+
+    # Reading
+
+    def target(self):
+        """What the sections 'part', 'raw' and 'damage' are of: the container, or the overlay that was begun last."""
+        return self.overlays[-1] if self.overlays else self
+
+    def begin(self, words, line):
+        """Begins the section that a line names."""
+        section = words[0]
+        if section in ("plan", "table") and self.overlays:
+            raise Fault("the plan and the tables stand before the overlays")
+        if section == "table":
+            self.add_part(Part("table", line, *table_header(words)))
+        elif section == "labels":
+            if not self.overlays:
+                raise Fault("'labels' stands only behind 'overlay'")
+            self.overlays[-1].begin_labels(words, line, self.parts[1:])
+        elif len(words) != 1:
+            raise Fault(f"the section '{section}' is begun by a line with this word alone")
+        elif section == "plan" and self.parts:
+            raise Fault("the plan is the first part, and there is one")
+        elif section in ("plan", "part"):
+            self.target().add_part(Part(section, line))
+        elif section == "raw":
+            self.target().begin_raw(line)
+        elif section == "overlay":
+            if len(self.overlays) == overlays.OVERLAYS:
+                raise Fault(f"a container has at most {overlays.OVERLAYS} overlays")
+            self.overlays.append(Overlay(len(self.overlays), line, self.budget))
+        elif section == "draws":
+            if self.draws is not None:
+                raise Fault(f"{self.name} has its draws already")
+            self.draws = []
+
+    def add_line(self, section, line, count):
+        """Adds a line to the section that was begun."""
+        if section == "answer":
+            self.answer += repeated(line, self.budget)
+        elif section == "draws":
+            words = [word for one in repeated(line, self.budget) for word in one.split()]
+            self.budget.take(LONGEST_DRAW * len(words))
+            self.draws += [number(word, what="the draw") for word in words]
+        elif section == "overlay":
+            raise Fault("an overlay has sections 'labels', one for each table of the container")
+        elif section is None:
+            raise Fault(f"{quoted(line)} stands before the first section; sections are {' '.join(SECTIONS)}")
+        else:
+            self.target().add(section, line, count)
+
+    # Making
+
+    def refused_with(self, numbers):
+        """Whether the answer says that the input is refused with one of these numbers."""
+        return bool(self.answer and re.fullmatch(f"X ({numbers}) [0-9]+", self.answer[0]))
+
+    def made(self):
+        """The container's bytes."""
+        if not self.comments:
+            raise Fault(f"{self.name} has no comment, a line with # that says what it shows")
+        if self.raw is None and not self.parts:
+            raise Fault(f"{self.name} has no plan")
+        whole = super().made()
+        if not (self.made_wrong() or self.refused_with("1[1-9]|20")):
+            self.check(whole)
+        return whole
+
+    def made_draws(self):
+        """The bytes of the file of draws."""
+        if self.draws is None:
+            raise Fault(f"{self.name} has no section 'draws', which may be empty")
+        return "".join(f"{draw}\n" for draw in self.draws).encode()
+
+    def made_overlay(self, number):
+        """The bytes of an overlay, which may be none. One that is not marked as wrong passes its checks."""
+        if number >= len(self.overlays):
+            return b""
+        overlay, container = self.overlays[number], super().made()
+        made = overlay.made()
+        if not (overlay.made_wrong() or self.refused_with("21|22")) and layout.check(container) is None:
+            refusal = overlays.check_overlay(made, layout.parts_of(container)[1:])
+            if refusal:
+                raise unmarked(refusal, f"{overlay.name}: {refusal.reason}", overlay.line_of(refusal))
+        return made
+
+    def check(self, data):
+        """A container that is not marked as wrong passes the input checks."""
+        if self.parts[0].section != "plan":
+            raise Fault(f"{self.name} has no plan; its section comes before the tables")
+        if len(self.parts) == 1:
+            raise Fault(f"{self.name} has no table")
+        refusal = layout.check(data)
+        if refusal:
+            raise unmarked(refusal, refusal.reason, self.line_of(refusal))
+
+    def line_of(self, refusal):
+        if refusal.number < 13:
+            return self.line
+        if refusal.number == 16:
+            return self.parts[0].line
+        if refusal.number in (17, 18, 19):
+            return self.parts[0].line_of(refusal.place - self.starts()[0])
+        return self.line_in(refusal.place)
+
+
+def unmarked(refusal, reason, line):
+    """The fault of what the monitor would refuse, though the text does not say so."""
+    fault = Fault(f"{reason} ({refusal.number} at byte {refusal.place}; what is meant to be wrong says so in its section 'answer')")
+    fault.line = line
+    return fault
 
 
 def put(whole, at, new):
@@ -375,7 +504,7 @@ DIRECTIVES = {
 
 
 class Text:
-    """The containers of a text, and whether their answers are those of the input checks, of a run, or of a run with draws."""
+    """The containers of a text, and whether their answers are those of the input checks, or of a run, and with what."""
 
     def __init__(self, path):
         self.path, self.form, self.sources, self.section = path, "run", [], None
@@ -415,16 +544,16 @@ class Text:
         elif not self.sources:
             raise Fault(f"{quoted(line)} stands before the first line 'container NAME'")
         elif words[0] in SECTIONS:
-            if words[0] == "draws" and self.form != "noise":
-                raise Fault("'draws' stands only in a text that begins with 'answers noise'")
+            if ONLY_IN.get(words[0], self.form) != self.form:
+                raise Fault(f"'{words[0]}' stands only in a text that begins with 'answers {ONLY_IN[words[0]]}'")
             self.sources[-1].begin(words, count)
             self.section = words[0]
         else:
-            self.sources[-1].add(self.section, line, count)
+            self.sources[-1].add_line(self.section, line, count)
 
     def begin_answers(self, words):
         if self.sources or len(words) != 2:
-            raise Fault("'answers check', 'answers run' or 'answers noise' stands before the first container")
+            raise Fault("'answers check', 'answers run', 'answers noise' or 'answers overlays' stands before the first container")
         choice(words[1], FORMS, "kind of answers")
         self.form = words[1]
 
@@ -440,8 +569,8 @@ class Text:
         self.section = None
 
     def file_names(self):
-        """The names of all files: each container's, and behind it that of its draws, where the text has them."""
-        ends = ("", DRAWS) if self.form == "noise" else ("",)
+        """The names of all files: each container's, and behind it that of its draws or those of its overlays, where the text has them."""
+        ends = ("", *{"noise": (DRAWS,), "overlays": OVERLAYS}.get(self.form, ()))
         return [source.name + end for source in self.sources for end in ends]
 
     def files(self):
@@ -451,6 +580,9 @@ class Text:
             files[source.name] = self.guarded(source.line, source.made)
             if self.form == "noise":
                 files[source.name + DRAWS] = self.guarded(source.line, source.made_draws)
+            if self.form == "overlays":
+                for number, end in enumerate(OVERLAYS):
+                    files[source.name + end] = self.guarded(source.line, lambda: source.made_overlay(number))
         return files
 
     def expected(self):
@@ -502,23 +634,54 @@ def shown_table(part):
     return [f"table {columns}" + ("" if sheets is None else f" sheets {sheets}"), *rows_shown]
 
 
-def shown(path):
-    """A container's file as text; what the input checks refuse is marked as wrong by its answer."""
-    data = read_file(path, LONGEST_MADE)
-    if len(data) > LONGEST_MADE:
-        raise Failure(f"{plain(path)}: it has more than {LONGEST_MADE:,} bytes, so it is no container")
-    name = re.sub("[^a-z0-9_]", "_", os.path.basename(path).lower())[:100] or "_"
-    lines = [f"container {name}", f"# {plural(len(data), 'byte')}"]
-    refusal = layout.check(data)
-    if refusal:
-        lines.append(f"# Refused with {refusal.number} at byte {refusal.place}: {refusal.reason}.")
+def shown_labels(part, table):
+    """The part of an overlay for a table."""
+    if overlays.part_fault(part, table):
+        return ["part", *lines_of_bytes(part, "bytes ")]
+    every = ["." if label == 0 else labels.label_text(label) for label in overlays.label_words(part)]
+    if set(every) <= {"."}:
+        return ["labels clear"]
+    return ["labels", *("  " + " ".join(every[k : k + part[0]]) for k in range(0, len(every), part[0]))]
+
+
+def shown_overlay(data, tables):
+    """An overlay of a container with these tables, or with none that are right."""
+    if not data:
+        return ["overlay"]
+    parts = layout.parts_of(data)
+    if parts is None or len(parts) != len(tables):
+        return ["overlay", "raw", *lines_of_bytes(data)]
+    return ["overlay", *(line for part, table in zip(parts, tables) for line in shown_labels(part, table))]
+
+
+def shown_container(data):
     parts = layout.parts_of(data)
     if parts is None:
-        lines += ["raw", *lines_of_bytes(data)]
-    else:
-        lines += shown_plan(parts[0])
-        for part in parts[1:]:
-            lines += shown_table(part)
+        return ["raw", *lines_of_bytes(data)]
+    return shown_plan(parts[0]) + [line for part in parts[1:] for line in shown_table(part)]
+
+
+def read_made(path, kind):
+    """The bytes of a file that may be a container or an overlay."""
+    data = read_file(path, LONGEST_MADE)
+    if len(data) > LONGEST_MADE:
+        raise Failure(f"{plain(path)}: it has more than {LONGEST_MADE:,} bytes, so it is no {kind}")
+    return data
+
+
+def shown(path, *overlay_paths):
+    """A container's file as text, with its overlays; what the checks refuse is marked as wrong by its answer."""
+    data, over = read_made(path, "container"), [read_made(one, "overlay") for one in overlay_paths]
+    name = re.sub("[^a-z0-9_]", "_", os.path.basename(path).lower())[:100] or "_"
+    lines = (["answers overlays"] if over else []) + [f"container {name}", f"# {plural(len(data), 'byte')}"]
+    refused = layout.check(data)
+    tables = [] if refused else layout.parts_of(data)[1:]
+    refusal = refused or overlays.check(data, over)
+    if refusal:
+        lines.append(f"# Refused with {refusal.number} at byte {refusal.place}: {refusal.reason}.")
+    lines += shown_container(data)
+    for overlay in over:
+        lines += shown_overlay(overlay, tables)
     if refusal:
         lines += ["answer", f"  X {refusal.number} {refusal.place}"]
     return "".join(f"{line}\n" for line in lines)

@@ -6,15 +6,16 @@ use mathlib.Core.List.{List, [], _∷_}
 use native.Mathlib.Nat.{suc-mul, zero-add, add-zero, add-suc, suc-add, add-comm, mul-le-mul-right}
 use native.Mathlib.Omega.{arith}
 use lib.Dec.{leb}
-use lib.ListN.{length, getD, take, drop, length-drop}
+use lib.ListN.{length, getD, drop, length-drop}
 use lib.Seq.{length-take-le}
 use borrow.Author.Tests.{leb-true, ne-eqb, not-true, not-false}
-use Rattle.accepted.specs.Accepted.{TablesCounted, TablesFound, HeaderMeans, Sound, TablesSound, SheetsSound, TablesSheets}
+use Rattle.accepted.specs.Accepted.{TablesCounted, TablesFound, HeaderMeans, Sound, TablesSound, TablesFormed, SheetsSound, TablesSheets}
 use Rattle.container.specs.Check.{accepted, checkTables, checkPlanPart, checkInput}
 use Rattle.container.specs.Contents.{tablesFrom, inputTables, tablesOf}
 use Rattle.label_words.specs.WellFormed.{wellFormed}
 use Rattle.layout.specs.Layout.{partCount, offsetOf, partOf}
-use Rattle.layout_check.specs.Checks.{checkContainer, checkDirectory}
+use Rattle.directory.specs.Directory.{checkDirectory}
+use Rattle.layout_check.specs.Checks.{checkContainer}
 use Rattle.plan.specs.Sense.{Small}
 use Rattle.plan.specs.Sheets.{marksFrom, marksOf, withMarks, allWithMarks}
 use Rattle.plan.specs.Table.{Cell, Table, noTable, rowsOf, Each, Shaped}
@@ -22,7 +23,8 @@ use Rattle.table_check.specs.Checks.{checkCells, checkTable}
 use Rattle.table_part.specs.TablePart.{columnsOf, sheetsOf, rowCount, cellCount, headerFits, valuePlace, labelPlace, valueOf, labelOf, cellsFrom, tableOf}
 use Rattle.value.specs.Range.{inRange}
 use Rattle.input.proofs.Laws.{both, not-so, passed}
-use Rattle.layout_check.proofs.Pairs.{sized}
+use Rattle.plan.proofs.SenseEach.{each-take, each-drop, each-weaken}
+use Rattle.layout_check.proofs.Sized.{sized}
 use Rattle.table_check.proofs.Header.{header}
 use Rattle.sheet_check.specs.Sheets.{sheetFits, allFit, sheetsFit}
 use Rattle.table_part.proofs.Laws.{cells-length, cell-there}
@@ -31,7 +33,7 @@ use Rattle.value.specs.Pattern.{negative}
 -- the four checks that an accepted container has passed
 pub record Checks (bytes : List ℕ) : Type 0 where
   pub container : checkContainer bytes ≡ accepted
-  pub directory : checkDirectory bytes ≡ accepted
+  pub directory : checkDirectory 12 bytes ≡ accepted
   pub tables : checkTables bytes 1 (partCount bytes - 1) ≡ accepted
   pub plan : checkPlanPart bytes ≡ accepted
 
@@ -39,7 +41,7 @@ pub checks : (bytes : List ℕ) → checkInput bytes ≡ accepted → Checks byt
 unfolding checkInput
 checks bytes e =
     let c = both (checkContainer bytes) _ e in
-    let d = both (checkDirectory bytes) _ (c .1) in
+    let d = both (checkDirectory 12 bytes) _ (c .1) in
     let t = both (checkTables bytes 1 (partCount bytes - 1)) _ (d .1) in
     record { container = c .0; directory = d .0; tables = t .0; plan = t .1 }
 
@@ -55,16 +57,6 @@ sound-cells part at cell (suc more) e =
     let l = passed (not (wellFormed (labelOf part cell))) 15 (at + labelPlace cell) _ (v .1) in
     ((not-false _ (v .0), not-false _ (l .0)), sound-cells part at (suc cell) more (l .1))
 
-sound-take : (n : ℕ) (cells : List Cell) → Each SoundCell cells → Each SoundCell (take n cells)
-sound-take zero cells e = tt
-sound-take (suc n) [] e = tt
-sound-take (suc n) (cell ∷ cells) e = (e .0, sound-take n cells (e .1))
-
-sound-drop : (n : ℕ) (cells : List Cell) → Each SoundCell cells → Each SoundCell (drop n cells)
-sound-drop zero cells e = e
-sound-drop (suc n) [] e = tt
-sound-drop (suc n) (cell ∷ cells) e = sound-drop n cells (e .1)
-
 rows-length : (columns : ℕ) (marks : List ℕ) (cells : List Cell) → length (rowsOf columns marks cells) ≡ length marks
 rows-length columns [] cells = refl
 rows-length columns (mark ∷ marks) cells = ap suc (rows-length columns marks (drop columns cells))
@@ -75,12 +67,13 @@ rows-shaped columns (mark ∷ marks) cells e =
     let s = suc-mul (length marks) columns in
     (length-take-le columns cells (omega arith), rows-shaped columns marks (drop columns cells) (length-drop columns cells ∙ omega arith))
 
-rows-sound : (columns : ℕ) (marks : List ℕ) (cells : List Cell) → Each SoundCell cells → Each (λ row. Each SoundCell (row .cells)) (rowsOf columns marks cells)
-rows-sound columns [] cells e = tt
-rows-sound columns (mark ∷ marks) cells e = (sound-take columns cells e, rows-sound columns marks (drop columns cells) (sound-drop columns cells e))
+-- what holds of each cell of a table holds of each cell of its rows
+pub rows-each : (P : Cell → Type 0) (columns : ℕ) (marks : List ℕ) (cells : List Cell) → Each P cells → Each (λ row. Each P (row .cells)) (rowsOf columns marks cells)
+rows-each P columns [] cells e = tt
+rows-each P columns (mark ∷ marks) cells e = (each-take P columns cells e, rows-each P columns marks (drop columns cells) (each-drop P columns cells e))
 
 -- as many marks as rows
-marks-length : (sheets columns table row more : ℕ) (cells : List Cell) → length (marksFrom sheets columns table row more cells) ≡ more
+pub marks-length : (sheets columns table row more : ℕ) (cells : List Cell) → length (marksFrom sheets columns table row more cells) ≡ more
 marks-length sheets columns table row zero cells = refl
 marks-length sheets columns table row (suc more) cells = ap suc (marks-length sheets columns table (suc row) more (drop columns cells))
 
@@ -131,7 +124,7 @@ module _ (part : List ℕ) (at : ℕ) (e : checkTable part at ≡ accepted) wher
         small = rw (rows-counted part table) (h .small);
         some = h .some;
         few = h .few;
-        sound = rows-sound (columnsOf part) (marksAt part table) cells (sound-cells part at 0 (cellCount part) (cells-pass .0));
+        sound = rows-each SoundCell (columnsOf part) (marksAt part table) cells (sound-cells part at 0 (cellCount part) (cells-pass .0));
       }
 
   -- the cells of the sheet column, one row after the other
@@ -182,6 +175,15 @@ module _ (bytes : List ℕ) where
       let b = both (checkTable (partOf bytes part) (offsetOf bytes part)) _ e in
       (sheets-sound (partOf bytes part) (offsetOf bytes part) (b .0), inputs-sound (suc part) more (b .1))
 
+  cells-formed : (part more : ℕ) → checkTables bytes part more ≡ accepted
+      → Each (λ table. Each (λ cell. wellFormed (cell .label) ≡ true) (table .cells)) (tablesFrom bytes part more)
+  unfolding tableOf
+  cells-formed part zero e = tt
+  cells-formed part (suc more) e =
+      let b = both (checkTable (partOf bytes part) (offsetOf bytes part)) _ e in
+      let cells = cellsFrom (partOf bytes part) 0 (cellCount (partOf bytes part)) in
+      (each-weaken SoundCell _ (λ _ s. s .1) cells (sound-cells (partOf bytes part) (offsetOf bytes part) 0 (cellCount (partOf bytes part)) (cells-pass (partOf bytes part) (offsetOf bytes part) (b .0) .0)), cells-formed (suc part) more (b .1))
+
   tables-length : (table part more : ℕ) → length (allWithMarks table (tablesFrom bytes part more)) ≡ more
   tables-length table part zero = refl
   tables-length table part (suc more) = ap suc (tables-length (suc table) (suc part) more)
@@ -197,10 +199,6 @@ module _ (bytes : List ℕ) where
       rw (add-suc part t ∙ sym (suc-add part t), add-suc table t ∙ sym (suc-add table t))
       (table-at (suc table) (suc part) more t (both (checkTable (partOf bytes part) (offsetOf bytes part)) _ e .1) (omega arith))
 
-each-of : (P : Table → Type 0) → ((table : Table) → Good table → P table) → (tables : List Table) → Each Good tables → Each P tables
-each-of P f [] e = tt
-each-of P f (table ∷ tables) e = (f table (e .0), each-of P f tables (e .1))
-
 pub tables-counted : TablesCounted
 unfolding tablesOf inputTables
 tables-counted bytes e =
@@ -211,6 +209,10 @@ pub tables-found : TablesFound
 unfolding tablesOf inputTables
 tables-found bytes e t h = rw (add-comm t 1) (rw (zero-add t) at (table-at bytes 0 1 (partCount bytes - 1) t (checks bytes e .tables) h))
 
+pub tables-formed : TablesFormed
+unfolding inputTables
+tables-formed bytes e = cells-formed bytes 1 (partCount bytes - 1) (checks bytes e .tables)
+
 pub tables-sheets : TablesSheets
 unfolding inputTables
 tables-sheets bytes e = inputs-sound bytes 1 (partCount bytes - 1) (checks bytes e .tables)
@@ -220,8 +222,8 @@ unfolding tablesOf inputTables
 tables-sound bytes e =
     let g = tables-good bytes 0 1 (partCount bytes - 1) (checks bytes e .tables) in
     let all = allWithMarks 0 (tablesFrom bytes 1 (partCount bytes - 1)) in (
-      each-of Shaped (λ _ x. x .shaped) all g,
-      each-of Small (λ _ x. x .small) all g,
-      each-of _ (λ _ x. (x .some, x .few)) all g,
-      each-of Sound (λ _ x. x .sound) all g,
+      each-weaken Good Shaped (λ _ x. x .shaped) all g,
+      each-weaken Good Small (λ _ x. x .small) all g,
+      each-weaken Good _ (λ _ x. (x .some, x .few)) all g,
+      each-weaken Good Sound (λ _ x. x .sound) all g,
     )

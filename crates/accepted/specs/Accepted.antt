@@ -50,6 +50,10 @@ TablesSound = (bytes : List ℕ) → checkInput bytes ≡ accepted
     → Each Shaped (tablesOf bytes) × Each Small (tablesOf bytes)
     × Each (λ table. (1 ≤ table .columns) × (table .columns ≤ 8)) (tablesOf bytes) × Each Sound (tablesOf bytes)
 
+-- the same of the labels before the rows have their marks
+abbrev pub TablesFormed : Type 0
+TablesFormed = (bytes : List ℕ) → checkInput bytes ≡ accepted → Each (λ table. Each (λ cell. wellFormed (cell .label) ≡ true) (table .cells)) (inputTables bytes)
+
 -- byte 1 is zero, or one more than a column whose cells are clear and not negative
 pub record SheetsSound (input : InputTable) : Type 0 where
   pub within : input .sheets ≤ input .columns

@@ -7,7 +7,7 @@ use Rattle.label_discharge.specs.Discharge.{forbidsT, afterT, transformExists, 
 use Rattle.label_words.specs.WellFormed.{wellFormed}
 use Rattle.label_words.specs.declared.LabelAnswer.{LabelAnswer}
 use Rattle.apply_refusal.proofs.Laws.{answered}
-use Rattle.extension.proofs.Leaves.{leaves, leaves-after}
+use Rattle.cells.proofs.Leaves.{leaves, leaves-after}
 use Rattle.label_laws.proofs.Laws.{forbids-T, after-T}
 
 pub leaves-is : (word operation digits : ℕ) → wellFormed word ≡ true → transformExists operation digits ≡ true → (a : LabelAnswer)

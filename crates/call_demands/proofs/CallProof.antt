@@ -93,8 +93,8 @@ call-traces given lent answer h b = rw (long-call given lent answer h) (trace-is
 
 -- ---- demand 1, the slices of the run
 
--- 1 and 11 to 20
-kept-leaves : {lent : Lent} (call : RunCall) → 1 ≤ call .number → call .number ≤ 20 → call .left ≡ lent → Leaves lent call
+-- 1 and 11 to 22
+kept-leaves : {lent : Lent} (call : RunCall) → 1 ≤ call .number → call .number ≤ 22 → call .left ≡ lent → Leaves lent call
 kept-leaves {lent} call from to e = record {
   all-kept = λ _ _. e;
   output-kept = λ _. (ap (λ (l : Lent). l .output) e, ap (λ (l : Lent). l .text) e);
@@ -136,7 +136,7 @@ call-leaves given lent answer = by-call given lent answer (Leaves lent) (λ _. k
     }
     told h (refusedInput number place) e =
         let i = input-refusal-means given lent number place e in
-        kept-leaves _ (omega arith) (i .to-20) (input-refusal-keeps-all given lent number place e)
+        kept-leaves _ (omega arith) (i .to-22) (input-refusal-keeps-all given lent number place e)
     told h (refusedState number step row column) e = refusal (refusal-means given lent number step row column e)
 
 -- ---- demand 2, from the numbers told to the evaluation

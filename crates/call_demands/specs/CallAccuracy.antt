@@ -53,7 +53,7 @@ CallTraces = (given : Given) (lent : Lent) (answer : List ℕ) → 4 ≤ length 
 
 -- ---- from the numbers told to the evaluation
 
--- Why a call tells what it tells: 0 for a release, 1 for a slice too short, 11 to 20 for the input, 31 to 37 and 51 for the state, and no other.
+-- Why a call tells what it tells: 0 for a release, 1 for a slice too short, 11 to 22 for the input, 31 to 37 and 51 for the state, and no other.
 pub data Called (given : Given) (lent : Lent) (answer : List ℕ) (call : RunCall) : Type 0 where
   releases : {rows columns bytes : ℕ} → 4 ≤ length answer → Tells call (0 ∷ rows ∷ columns ∷ bytes ∷ []) answer
       → Released given lent rows columns bytes (call .left .output) (call .left .text) → Called given lent answer call

@@ -13,10 +13,10 @@ use Rattle.demands.specs.Memory.{Zeroed, SameLengths}
 abbrev pub CallShortKeepsAll : Type 0
 CallShortKeepsAll = (given : Given) (lent : Lent) (answer : List ℕ) → length answer < 4 → runCall given lent answer ≡ runCalled 1 lent answer
 
--- What a call leaves in the six slices of the run, by the number that it returns: 1 and 11 to 20 change none of them, no refusal alters the
+-- What a call leaves in the six slices of the run, by the number that it returns: 1 and 11 to 22 change none of them, no refusal alters the
 -- output or the text, and 0, 31 to 37 and 51 leave work memory zero.
 pub record Leaves (lent : Lent) (call : RunCall) : Type 0 where
-  pub all-kept : 1 ≤ call .number → call .number ≤ 20 → call .left ≡ lent
+  pub all-kept : 1 ≤ call .number → call .number ≤ 22 → call .left ≡ lent
   pub output-kept : call .number ≢ 0 → (call .left .output ≡ lent .output) × (call .left .text ≡ lent .text)
   pub zeroed-by-release : call .number ≡ 0 → Zeroed lent (call .left)
   pub zeroed-by-refusal : 31 ≤ call .number → Zeroed lent (call .left)

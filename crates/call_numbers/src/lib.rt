@@ -38,7 +38,7 @@ pub fn run_numbers(answer: RunAnswer) -> [u64; 4]
 // The numbers of what the input checks answer.
 pub fn check_numbers(check: InputCheck) -> [u64; 2]
     ensures { λ r. ⌜ r ≡ checkNumbersOf (inputSays check) ⌝ }
-    ensures { λ r. ⌜ getD r 0 0 ≤ 20 ⌝ }
+    ensures { λ r. ⌜ getD r 0 0 ≤ 22 ⌝ }
 {
     match check {
         InputCheck::Accepted => [0, 0],
@@ -49,7 +49,7 @@ pub fn check_numbers(check: InputCheck) -> [u64; 2]
 // The number and the place of a refusal because of the input.
 fn input_numbers(refusal: InputRefusal) -> [u64; 2]
     ensures { λ r. ⌜ r ≡ inputTells (λ number place. number ∷ place ∷ []) refusal ⌝ }
-    ensures { λ r. ⌜ getD r 0 0 ≤ 20 ⌝ }
+    ensures { λ r. ⌜ getD r 0 0 ≤ 22 ⌝ }
 {
     match refusal {
         InputRefusal::Container => [11, 0],
@@ -59,13 +59,15 @@ fn input_numbers(refusal: InputRefusal) -> [u64; 2]
         InputRefusal::Label(place) => [15, place as u64],
         InputRefusal::Sheets(place) => [20, place as u64],
         InputRefusal::Plan(refusal) => plan_numbers(refusal),
+        InputRefusal::Overlay(place) => [21, place as u64],
+        InputRefusal::OverlayLabel(place) => [22, place as u64],
     }
 }
 
 // The same of a refusal because of the plan.
 fn plan_numbers(refusal: PlanRefusal) -> [u64; 2]
     ensures { λ r. ⌜ r ≡ planTells (λ number place. number ∷ place ∷ []) refusal ⌝ }
-    ensures { λ r. ⌜ getD r 0 0 ≤ 20 ⌝ }
+    ensures { λ r. ⌜ getD r 0 0 ≤ 22 ⌝ }
 {
     match refusal {
         PlanRefusal::Length(place) => [16, place as u64],

@@ -3,6 +3,7 @@ pub mod CellLaws
 pub mod Columns
 pub mod Filled
 pub mod LabelledTables
+pub mod Leaves
 pub mod Masks
 pub mod Parts
 pub mod RowReads

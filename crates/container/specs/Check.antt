@@ -4,7 +4,8 @@ use Prim.Native.Nat.{ℕ, zero, suc, _-_}
 use mathlib.Core.List.{List, [], _∷_}
 use Rattle.input.specs.Verdict.{andThen}
 use Rattle.layout.specs.Layout.{partCount, offsetOf, partOf}
-use Rattle.layout_check.specs.Checks.{checkContainer, checkDirectory}
+use Rattle.directory.specs.Directory.{checkDirectory}
+use Rattle.layout_check.specs.Checks.{checkContainer}
 use Rattle.plan_check.specs.PlanCheck.{checkPlan}
 use Rattle.table_check.specs.Checks.{checkTable}
 use Rattle.table_part.specs.TablePart.{columnsOf}
@@ -27,5 +28,5 @@ checkPlanPart bytes = checkPlan (partOf bytes 0) (offsetOf bytes 0) (tableWidths
 unfoldable pub checkInput : List ℕ → InputVerdict
 checkInput bytes =
     andThen (checkContainer bytes)
-    (andThen (checkDirectory bytes)
+    (andThen (checkDirectory 12 bytes)
     (andThen (checkTables bytes 1 (partCount bytes - 1)) (checkPlanPart bytes)))

@@ -38,6 +38,8 @@ fn refused_input(refusal: InputRefusal) {
         InputRefusal::Label(place) => refused(15, place),
         InputRefusal::Sheets(place) => refused(20, place),
         InputRefusal::Plan(refusal) => refused_plan(refusal),
+        InputRefusal::Overlay(place) => refused(21, place),
+        InputRefusal::OverlayLabel(place) => refused(22, place),
     }
 }
 

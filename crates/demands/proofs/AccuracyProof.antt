@@ -16,7 +16,7 @@ use Rattle.demands.specs.Answers.{Told, released, refusedInput, refusedS
 use Rattle.demands.specs.Given.{checkGiven, planGiven, supplyGiven}
 use Rattle.demands.specs.Lent.{enough}
 use Rattle.demands.specs.Monitor.{evaluation, runOutcome, answerOf, rowsOut, textOut, written, Begun}
-use Rattle.demands.proofs.InputNumbers.{input-numbers}
+use Rattle.demands.proofs.InputNumbers.{given-numbers}
 use Rattle.demands.proofs.MemoryProof.{never-input}
 use Rattle.demands.proofs.Runs.{input-run, begun-run, by-cases}
 use Rattle.demands.proofs.Tables.{release-held}
@@ -97,8 +97,8 @@ input-refusal-means given lent number place =
         → RefusedInput given lent number place
     by-check n p long check e =
         let so : checkGiven given ≡ rejected number place = cc in
-        let h = input-numbers (given .container) number place so in
-        record { long = long; check = so; from-11 = h .0; to-20 = h .1 }
+        let h = given-numbers (given .container) (given .overlays) number place so in
+        record { long = long; check = so; from-11 = h .0; to-22 = h .1 }
 
 -- ---- the trace
 

@@ -2,7 +2,6 @@
 -- numbers are clear, so that no plan locks them. Assumes nothing.
 use Prim.Native.Nat.{ℕ, zero, suc, _+_, _*_, _≤_, _<_}
 use mathlib.Core.Path.{_≡_, refl, ap, ap₂, _∙_}
-use mathlib.Core.Bool.{false}
 use mathlib.Core.List.{List, [], _∷_}
 use native.Mathlib.Nat.{suc-mul}
 use native.Mathlib.Omega.{arith}
@@ -10,15 +9,14 @@ use lib.ListN.{getD, take, drop}
 use lib.Seq.{getD-take, getD-drop}
 use borrow.Author.Tests.{eqb-true}
 use Rattle.accepted.specs.Accepted.{SheetsSound}
-use Rattle.accepted.proofs.AcceptedTables.{tables-sheets}
-use Rattle.container.specs.Contents.{tablesOf}
 use Rattle.input.specs.Verdict.{accepted}
-use Rattle.label_words.specs.Word.{fieldAt}
-use Rattle.plan.specs.Locked.{locked}
+use Rattle.overlaid.proofs.Overlaid.{overlays-sheets}
 use Rattle.plan.specs.Secrecy.{Pairwise, none, more, AlikeCells, AlikeRows, AlikeMarked, AlikeTables, AlikeSupplies}
 use Rattle.plan.specs.Sheets.{InputTable, markOf, marksFrom, marksOf, withMarks, allWithMarks}
 use Rattle.plan.specs.Table.{Cell, rowsOf, blank, Each}
 use Rattle.plan.specs.declared.Step.{Step}
+use Rattle.plan.proofs.LockedLaws.{clear-open}
+use Rattle.plan.proofs.Pairs.{both-take, both-drop}
 use Rattle.value.specs.Pattern.{magnitudeOf}
 use Rattle.demands.specs.Given.{Given, checkGiven, planGiven, supplyGiven}
 use Rattle.demands.specs.Secrecy.{AlikeInputs}
@@ -39,24 +37,10 @@ module _ (plan : List Step) where
   abbrev Alike : List Cell → List Cell → Type 0
   Alike = Pairwise (AlikeCells plan)
 
-  both-take : (n : ℕ) {xs ys : List Cell} → Alike xs ys → Alike (take n xs) (take n ys)
-  both-take zero p = none
-  both-take (suc n) none = none
-  both-take (suc n) (more c p) = more c (both-take n p)
-
-  both-drop : (n : ℕ) {xs ys : List Cell} → Alike xs ys → Alike (drop n xs) (drop n ys)
-  both-drop zero p = p
-  both-drop (suc n) none = none
-  both-drop (suc n) (more c p) = both-drop n p
-
   -- a clear cell is not locked, and has the same value in both
-  clear-open : locked plan 0 ≡ false
-  unfolding locked fieldAt
-  clear-open = refl
-
   same-value : (n : ℕ) {xs ys : List Cell} → Alike xs ys → getD xs n blank .label ≡ 0 → getD xs n blank .value ≡ getD ys n blank .value
   same-value n none e = refl
-  same-value zero (more c p) e = c .values (rw e clear-open)
+  same-value zero (more c p) e = c .values (rw e (clear-open plan))
   same-value (suc n) (more c p) e = same-value n p e
 
   -- the mark of the first row
@@ -94,5 +78,4 @@ module _ (plan : List Step) where
   tables-alike table s (more t p) = more (table-alike table (s .0) t) (tables-alike (suc table) (s .1) p)
 
 pub supplies-alike : (a b : Given) → checkGiven a ≡ accepted → AlikeInputs a b → AlikeSupplies (planGiven a) (supplyGiven a) (supplyGiven b)
-unfolding tablesOf
-supplies-alike a b e alike = record { tables = tables-alike (planGiven a) 0 (tables-sheets (a .container) e) (alike .tables); draws = alike .draws }
+supplies-alike a b e alike = record { tables = tables-alike (planGiven a) 0 (overlays-sheets (a .container) (a .overlays) e) (alike .tables); draws = alike .draws }

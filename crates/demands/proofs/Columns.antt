@@ -1,7 +1,7 @@
 -- The table that an accepted plan leaves has a column. Assumes nothing.
-use Prim.Native.Nat.{ℕ, zero, suc, _+_, _*_, _^_, _≤_, _<_}
-use mathlib.Core.Path.{_≡_, refl, ap}
-use mathlib.Core.Bool.{Bool, true, false, cond, not, and-eq-true-iff}
+use Prim.Native.Nat.{ℕ, zero, suc, _+_, _^_, _≤_, _<_}
+use mathlib.Core.Path.{_≡_, refl}
+use mathlib.Core.Bool.{Bool, true, false, cond, and-eq-true-iff}
 use mathlib.Core.List.{List, [], _∷_}
 use native.Mathlib.Nat.{div-eq-of-lt-le, two-pow-succ}
 use native.Mathlib.Omega.{arith}
@@ -11,8 +11,6 @@ use borrow.Author.Tests.{leb-true, leb-false, ltb-true, eqb-false, not-true}
 use Rattle.accepted.specs.Accepted.{Placed, operationExists}
 use Rattle.input.specs.Verdict.{accepted}
 use Rattle.accepted.proofs.AcceptedOperations.{operations-exist}
-use Rattle.accepted.proofs.AcceptedPlan.{plan-placed}
-use Rattle.accepted.proofs.AcceptedTables.{tables-sound}
 use Rattle.memory.specs.promises.Steps.{widthsOf}
 use Rattle.plan.specs.Keep.{keptCount}
 use Rattle.plan.specs.Masks.{inMask}
@@ -24,7 +22,9 @@ use Rattle.plan.specs.Widths.{enoughTables, operandColumnExists, columnsExist, 
 use Rattle.plan.specs.declared.Step.{Step}
 use Rattle.plan.specs.declared.Step.the-variants.{Scan, Union, Join, Filter, Keep, Apply, Group, Noise}
 use Rattle.demands.specs.Given.{Given, checkGiven, planGiven, prepared, supplyGiven}
-use Rattle.demands.proofs.Widths.{each-drop, made-columns, widths-drop, placed-after}
+use Rattle.demands.proofs.Prepared.{container-ok, placed-given, prepared-columns}
+use Rattle.demands.proofs.Widths.{made-columns, widths-drop, placed-after}
+use Rattle.plan.proofs.SenseEach.{each-drop}
 
 -- ---- a mask that is not zero, with no bit past the columns, keeps a column
 
@@ -86,5 +86,5 @@ widths-some (table ∷ tables) e = (e .0 .0, widths-some tables (e .1))
 
 pub top-some : (given : Given) → checkGiven given ≡ accepted → 1 ≤ top (stackLeft (supplyGiven given) [] (planGiven given)) .columns
 top-some given e =
-    left-some (supplyGiven given) [] (planGiven given) (widths-some (prepared given) (tables-sound (given .container) e .2)) tt
-    (plan-placed (given .container) e) (operations-exist (given .container) e)
+    left-some (supplyGiven given) [] (planGiven given) (widths-some (prepared given) (prepared-columns given e)) tt
+    (placed-given given e) (operations-exist (given .container) (container-ok given e))

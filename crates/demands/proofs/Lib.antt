@@ -1,5 +1,6 @@
 -- The proofs of the demands. All but AlikeSheets and Tables are also for the proofs of other crates to cite.
 pub mod Runs
+pub mod Prepared
 mod AlikeSheets
 pub mod SecrecyProof
 pub mod Slices

@@ -10,8 +10,7 @@ use lib.ListN.{length, drop}
 use borrow.Author.Tests.{leb-true}
 use Rattle.accepted.specs.Accepted.{Placed}
 use Rattle.input.specs.Verdict.{accepted}
-use Rattle.accepted.proofs.AcceptedPlan.{plan-placed, steps-counted}
-use Rattle.accepted.proofs.AcceptedTables.{tables-sound}
+use Rattle.accepted.proofs.AcceptedPlan.{steps-counted}
 use Rattle.plan.specs.Supply.{Supply}
 use Rattle.plan.specs.Table.{flat, Each, Shaped, Table, noTable, grid, top}
 use Rattle.memory.specs.promises.Steps.{widthsOf}
@@ -27,7 +26,9 @@ use Rattle.plan.specs.Trace.{flatLines}
 use Rattle.trace_lines.proofs.Laws.{lines-length}
 use Rattle.demands.specs.Given.{Given, checkGiven, planGiven, prepared, supplyGiven}
 use Rattle.demands.specs.Monitor.{evaluation}
-use Rattle.demands.proofs.Widths.{each-drop, each-weaker, made-columns, placed-after}
+use Rattle.demands.proofs.Prepared.{container-ok, placed-given, prepared-shaped, prepared-small, prepared-columns}
+use Rattle.demands.proofs.Widths.{made-columns, placed-after}
+use Rattle.plan.proofs.SenseEach.{each-drop, each-weaken}
 
 pub record Held (table : Table) : Type 0 where
   pub shaped : Shaped table
@@ -35,14 +36,14 @@ pub record Held (table : Table) : Type 0 where
   pub few : table .columns ≤ 8
 
 each-shaped : (tables : List Table) → Each Held tables → Each Shaped tables
-each-shaped = each-weaker Held Shaped (λ table h. h .shaped)
+each-shaped = each-weaken Held Shaped (λ table h. h .shaped)
 
 each-small : (tables : List Table) → Each Held tables → Each Small tables
-each-small = each-weaker Held Small (λ table h. h .small)
+each-small = each-weaken Held Small (λ table h. h .small)
 
 -- an accepted container's tables
 tables-held : (given : Given) → checkGiven given ≡ accepted → Each Held (prepared given)
-tables-held given e = let t = tables-sound (given .container) e in all (prepared given) (t .0) (t .1) (t .2)
+tables-held given e = all (prepared given) (prepared-shaped given e) (prepared-small given e) (prepared-columns given e)
   where
     all : (tables : List Table) → Each Shaped tables → Each Small tables → Each (λ table. (1 ≤ table .columns) × (table .columns ≤ 8)) tables → Each Held tables
     all [] s m w = tt
@@ -96,7 +97,7 @@ module _ (given : Given) (e : checkGiven given ≡ accepted) where
   module _ (table : Table) (o : evaluation given .outcome ≡ release table) where
     pub release-held : Held table
     unfolding evaluation evaluate
-    release-held = released-held (supplyGiven given) (tables-held given e) 0 [] (planGiven given) tt (plan-placed (given .container) e) table o
+    release-held = released-held (supplyGiven given) (tables-held given e) 0 [] (planGiven given) tt (placed-given given e) table o
 
     pub cells-most : length (flat (table .rows)) ≤ 2048
     cells-most =
@@ -104,4 +105,4 @@ module _ (given : Given) (e : checkGiven given ≡ accepted) where
 
   pub lines-most : length (flatLines (evaluation given .trace)) ≤ 256
   unfolding evaluation evaluate
-  lines-most = omega (arith, lines-length (evaluation given .trace), trace-length (supplyGiven given) 0 [] (planGiven given), steps-counted (given .container) e)
+  lines-most = omega (arith, lines-length (evaluation given .trace), trace-length (supplyGiven given) 0 [] (planGiven given), steps-counted (given .container) (container-ok given e))

@@ -2,7 +2,7 @@
 use Prim.Native.Nat.{ℕ, zero, suc}
 use mathlib.Core.Path.{_≡_, refl, sym, ap₂}
 use mathlib.Core.List.{List, [], _∷_}
-use lib.ListN.{getD, take, drop, List·getD-map}
+use lib.ListN.{getD, drop, List·getD-map}
 use Rattle.accepted.specs.Accepted.{Placed}
 use Rattle.memory.specs.promises.Steps.{widthsOf}
 use Rattle.plan.specs.Apply.{applied}
@@ -14,30 +14,11 @@ use Rattle.plan.specs.Noise.{withNoise}
 use Rattle.plan.specs.Scan.{scanned}
 use Rattle.plan.specs.Steps.{takes, make}
 use Rattle.plan.specs.Supply.{Supply}
-use Rattle.plan.specs.Table.{Table, noTable, Each}
+use Rattle.plan.specs.Table.{Table, noTable}
 use Rattle.plan.specs.Union.{united}
 use Rattle.plan.specs.Widths.{madeColumns}
 use Rattle.plan.specs.declared.Step.{Step}
 use Rattle.plan.specs.declared.Step.the-variants.{Scan, Union, Join, Filter, Keep, Apply, Group, Noise}
-
--- ---- facts of each element
-
-module _ {A : Type 0} where
-  pub each-take : (P : A → Type 0) (n : ℕ) (xs : List A) → Each P xs → Each P (take n xs)
-  each-take P zero xs e = tt
-  each-take P (suc n) [] e = tt
-  each-take P (suc n) (x ∷ xs) e = (e .0, each-take P n xs (e .1))
-
-  pub each-drop : (P : A → Type 0) (n : ℕ) (xs : List A) → Each P xs → Each P (drop n xs)
-  each-drop P zero xs e = e
-  each-drop P (suc n) [] e = tt
-  each-drop P (suc n) (x ∷ xs) e = each-drop P n xs (e .1)
-
-  pub each-weaker : (P Q : A → Type 0) → ((x : A) → P x → Q x) → (xs : List A) → Each P xs → Each Q xs
-  each-weaker P Q f [] e = tt
-  each-weaker P Q f (x ∷ xs) e = (f x (e .0), each-weaker P Q f xs (e .1))
-
--- ---- columns
 
 width-at : (n : ℕ) (stack : List Table) → getD (widthsOf stack) n 0 ≡ getD stack n noTable .columns
 width-at n stack = List·getD-map (λ table. table .columns) stack n noTable

@@ -86,12 +86,12 @@ abbrev pub InputIsChecked : Type 0
 InputIsChecked = (given : Given) (lent : Lent) → enough lent ≡ true → (number place : ℕ) → checkGiven given ≡ rejected number place
     → monitor given lent .answer ≡ refusedInput number place
 
--- why there is a refusal with a number at a place: the checks refuse so, with 11 to 20
+-- why there is a refusal with a number at a place: the checks refuse so, with 11 to 22
 pub record RefusedInput (given : Given) (lent : Lent) (number place : ℕ) : Type 0 where
   pub long : enough lent ≡ true
   pub check : checkGiven given ≡ rejected number place
   pub from-11 : 11 ≤ number
-  pub to-20 : number ≤ 20
+  pub to-22 : number ≤ 22
 
 abbrev pub InputRefusalMeans : Type 0
 InputRefusalMeans = (given : Given) (lent : Lent) (number place : ℕ) → monitor given lent .answer ≡ refusedInput number place

@@ -1,11 +1,11 @@
--- What a run is given to read: a container, and the draws (#102).
+-- What a run is given to read: a container, the draws (#102), and the overlays (#106).
 use Prim.Native.Nat.{ℕ}
-use mathlib.Core.List.{List}
+use mathlib.Core.List.{List, [], _∷_}
 use lib.IntN.{ℤ}
-use Rattle.container.specs.Check.{checkInput}
 use Rattle.input.specs.Verdict.{InputVerdict}
-use Rattle.container.specs.Contents.{planOf, inputTables, tablesOf}
-use Rattle.plan.specs.Sheets.{InputTable}
+use Rattle.container.specs.Contents.{planOf, inputTables}
+use Rattle.overlays.specs.Overlays.{checkAll, withOverlays}
+use Rattle.plan.specs.Sheets.{InputTable, allWithMarks}
 use Rattle.plan.specs.Supply.{Supply, supplied}
 use Rattle.plan.specs.Table.{Table}
 use Rattle.plan.specs.declared.Step.{Step}
@@ -13,23 +13,30 @@ use Rattle.plan.specs.declared.Step.{Step}
 pub record Given : Type 0 where
   pub container : List ℕ
   pub draws : List ℤ
+  pub overlays : List (List ℕ)
 
-abbrev pub given : List ℕ → List ℤ → Given
-given container draws = record { container = container; draws = draws }
+-- "Up to four overlays": four slices, of which any may be empty
+abbrev pub given : List ℕ → List ℤ → List ℕ → List ℕ → List ℕ → List ℕ → Given
+given container draws overlay₀ overlay₁ overlay₂ overlay₃ = record {
+  container = container;
+  draws = draws;
+  overlays = overlay₀ ∷ overlay₁ ∷ overlay₂ ∷ overlay₃ ∷ [];
+}
 
 -- the input checks; draws have none
 abbrev pub checkGiven : Given → InputVerdict
-checkGiven given = checkInput (given .container)
+checkGiven given = checkAll (given .container) (given .overlays)
 
--- the plan, and the tables that it is evaluated over: the container's as they are, and those with the marks of their rows (#103)
+-- the plan, and the tables that it is evaluated over: the container's with the overlays composed onto their labels, "before step 0", and those with the
+-- marks of their rows (#103)
 abbrev pub planGiven : Given → List Step
 planGiven given = planOf (given .container)
 
 abbrev pub tablesGiven : Given → List InputTable
-tablesGiven given = inputTables (given .container)
+tablesGiven given = withOverlays (given .overlays) (inputTables (given .container))
 
 abbrev pub prepared : Given → List Table
-prepared given = tablesOf (given .container)
+prepared given = allWithMarks 0 (tablesGiven given)
 
 -- these tables and the draws
 abbrev pub supplyGiven : Given → Supply

@@ -9,7 +9,7 @@ use Rattle.demands.specs.Lent.{Lent, enough}
 use Rattle.demands.specs.Monitor.{monitor}
 
 -- two inputs with the same plan, with tables alike but for the values of cells that the plan locks (#103: byte 1 is the same in both), and
--- #102: "The two compared inputs use the same list."
+-- #102: "The two compared inputs use the same list." #106: "The secrecy rule speaks of the composed labels", those of the tables with the overlays.
 pub record AlikeInputs (a b : Given) : Type 0 where
   pub plans : planGiven a ≡ planGiven b
   pub tables : Pairwise (AlikeTables (planGiven a)) (tablesGiven a) (tablesGiven b)

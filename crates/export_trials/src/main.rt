@@ -75,9 +75,14 @@ fn run(container: &[u8], text: &mut [u8]) -> [u64; 4] {
     let mut trace = [0u32; 256];
     let mut answer = [0u64; 4];
     let draws = [0i64; 0];
+    let none = [0u8; 0];
     cilunovay::cilunovay_run(
         container,
         &draws,
+        &none,
+        &none,
+        &none,
+        &none,
         &mut values,
         &mut labels,
         &mut marks,

@@ -1,6 +1,5 @@
 -- For the proofs of `apply` and `noise` to cite.
 mod Grids
-pub mod Leaves
 pub mod RowExtended
 pub mod Rows
 pub mod Extending

@@ -129,8 +129,3 @@ rows-drop columns (suc rows) (suc n) cells =
 
 pub rows-left : (g : Grouping) (memory : List Cell) (row : ℕ) → rowsFrom g memory row ≡ drop row (groupedRows g memory)
 rows-left g memory row = sym (rows-drop (g .columns) (g .rows) row (drop (g .at) memory) ∙ ap (bareRows (g .columns) (g .rows - row)) (drop-drop (row * g .columns) (g .at) memory))
-
-pub each-drop : {A : Type 0} (P : A → Type 0) (n : ℕ) (list : List A) → Each P list → Each P (drop n list)
-each-drop P zero list e = e
-each-drop P (suc n) [] e = e
-each-drop P (suc n) (x ∷ list) e = each-drop P n list (e .1)

@@ -17,11 +17,11 @@ use Rattle.memory.specs.promises.Stack.{markPart}
 use Rattle.plan.specs.Group.{anyMark, distinctAfter, distinct}
 use Rattle.plan.specs.Table.{Each}
 use Rattle.cells.proofs.CellLaws.{le-within}
-use Rattle.group.proofs.Choosing.{chosen-next, chosen-map, drop-map, each-chosen, each-drop}
+use Rattle.group.proofs.Choosing.{chosen-next, chosen-map, drop-map, each-chosen}
 use Rattle.mark_numbers.proofs.Firsts.{first-mark, first-upto}
 use Rattle.mark_numbers.proofs.RowNumbers.{number-at}
 use Rattle.memory.proofs.Stacks.{marks-count}
-use Rattle.plan.proofs.SenseEach.{each-at}
+use Rattle.plan.proofs.SenseEach.{each-at, each-drop}
 
 -- ---- numbers that tell marks apart
 

@@ -34,7 +34,7 @@ pub fn group_label(labels: &[u32], next: &[usize; 256], g: Grouping, row: usize,
     all
 }
 
-// A label composed with another one, discharged. Words that are no labels, or forbid it, are not met.
+// A label composed with another one, discharged, which most often is clear then and changes nothing. Words that are no labels, or forbid it, are not met.
 fn with_label(all: u32, next: u32, code: u32, size: u32) -> u32
     ensures { λ r. ⌜ (wellFormed all ≡ true → spec.AllowedLabel next → code < 5 → r ≡ composed all (afterA next code size)) ⌝ }
 {
@@ -42,6 +42,9 @@ fn with_label(all: u32, next: u32, code: u32, size: u32) -> u32
     let LabelAnswer::Label(left) = discharged else {
         return 0;
     };
+    if left == 0 {
+        return all;
+    }
     let composed = label::compose(all, left);
     let LabelAnswer::Label(both) = composed else {
         return 0;

@@ -52,6 +52,8 @@ module _ (P : InputVerdict → Type 0) (h : (number place : ℕ) → P (rejected
   refusal-rejects (input.Label place) = h 15 place
   refusal-rejects (input.Sheets place) = h 20 place
   refusal-rejects (input.Plan refusal) = plan-rejects refusal
+  refusal-rejects (input.Overlay place) = h 21 place
+  refusal-rejects (input.OverlayLabel place) = h 22 place
 
 -- nothing after a refusal counts
 pub stands : (r : InputCheck) (later : InputVerdict) {why : InputRefusal} → r ≡ check.Refused why → andThen (inputSays r) later ≡ inputSays r
@@ -65,6 +67,11 @@ passes r v e k = sym e ∙ ap inputSays k
 pub taken-together : (first second third : InputVerdict) → andThen (andThen first second) third ≡ andThen first (andThen second third)
 taken-together accepted second third = refl
 taken-together (rejected number place) second third = refl
+
+-- and nothing after the last of them
+pub at-last : (v : InputVerdict) → andThen v accepted ≡ v
+at-last accepted = refl
+at-last (rejected number place) = refl
 
 -- ---- numbers
 

@@ -22,3 +22,5 @@ input-tells (input.Plan (plan.Length place)) = record { number = 16; place = pla
 input-tells (input.Plan (plan.Record place)) = record { number = 17; place = place; tells = λ tell. refl }
 input-tells (input.Plan (plan.Tables place)) = record { number = 18; place = place; tells = λ tell. refl }
 input-tells (input.Plan (plan.Columns place)) = record { number = 19; place = place; tells = λ tell. refl }
+input-tells (input.Overlay place) = record { number = 21; place = place; tells = λ tell. refl }
+input-tells (input.OverlayLabel place) = record { number = 22; place = place; tells = λ tell. refl }

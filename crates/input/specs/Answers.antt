@@ -17,7 +17,7 @@ planTells tell (plan.Record place) = tell 17 place
 planTells tell (plan.Tables place) = tell 18 place
 planTells tell (plan.Columns place) = tell 19 place
 
--- and of each refusal because of the input
+-- and of each refusal because of the input; #106: 21 and 22 have their place in the overlay
 abbrev pub inputTells : {A : Type 0} → (ℕ → ℕ → A) → InputRefusal → A
 inputTells tell input.Container = tell 11 0
 inputTells tell (input.Directory place) = tell 12 place
@@ -26,6 +26,8 @@ inputTells tell (input.Value place) = tell 14 place
 inputTells tell (input.Label place) = tell 15 place
 inputTells tell (input.Sheets place) = tell 20 place
 inputTells tell (input.Plan refusal) = planTells tell refusal
+inputTells tell (input.Overlay place) = tell 21 place
+inputTells tell (input.OverlayLabel place) = tell 22 place
 
 -- what the answers of the checks say
 abbrev pub planRefusalSays : PlanRefusal → InputVerdict

@@ -16,7 +16,8 @@ pub enum PlanCheck {
 }
 
 // What can be wrong with a container: its length or part count, its directory, a table's header or length, a value, a label, a column of sheet
-// numbers, or the plan. The place is a byte offset.
+// numbers, or the plan; and with an overlay: that it does not fit the container, or a label of its. The place is a byte offset, in the overlay for
+// these two.
 pub enum InputRefusal {
     Container,
     Directory(usize),
@@ -25,9 +26,11 @@ pub enum InputRefusal {
     Label(usize),
     Sheets(usize),
     Plan(PlanRefusal),
+    Overlay(usize),
+    OverlayLabel(usize),
 }
 
-// What the input checks answer: the container is accepted, or the first thing that is wrong.
+// What the input checks answer: the input is accepted, or the first thing that is wrong.
 pub enum InputCheck {
     Accepted,
     Refused(InputRefusal),

@@ -16,14 +16,14 @@ pub fn compose(left: u32, right: u32) -> LabelAnswer
     ensures { λ r. ⌜ labelSays r ≡ spec.composeAnswer left right ⌝ }
 {
     if well_formed(left) & well_formed(right) {
-        LabelAnswer::Label(composed(left, right))
+        LabelAnswer::Label(compose_words(left, right))
     } else {
         LabelAnswer::IllFormed
     }
 }
 
-// A stage is present if either word has it.
-fn composed(a: u32, b: u32) -> u32
+// The same of any two words, labels or not, by their fields: a stage is present if either word has it.
+pub fn compose_words(a: u32, b: u32) -> u32
     ensures { λ r. ⌜ r ≡ spec.composed a b ⌝ }
 {
     pack(

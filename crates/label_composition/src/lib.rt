@@ -3,3 +3,4 @@ mod composition;
 mod packing;
 
 pub use composition::compose;
+pub use composition::compose_words;

@@ -1,2 +1,2 @@
--- What the proofs share. Pairs is also for the proofs of other crates to cite.
-pub mod Pairs
+-- For the proofs of other crates to cite.
+pub mod Sized

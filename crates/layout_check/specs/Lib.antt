@@ -1,2 +1,2 @@
--- The checks 11 and 12. This file is what a reader must believe.
+-- The check 11. This file is what a reader must believe.
 pub mod Checks

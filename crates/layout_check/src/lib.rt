@@ -1,4 +1,38 @@
 // The checks of a container's length, its part count and its directory.
-mod directory;
+ghost use mathlib.Core.Path.{_≡_};
+ghost use Rattle.directory.specs.Directory.{checkDirectory};
+ghost use Rattle.input.specs.Verdict.{andThen};
+ghost use Rattle.input.specs.promises.Checks.{inputSays};
+ghost use Rattle.layout_check.specs.Checks.{checkContainer};
+use directory::DirectoryCheck;
+use directory::check_directory;
+use input::InputCheck;
+use input::InputRefusal;
+use little_endian::two;
 
-pub use directory::check_layout;
+// 11: the container's length, its part count, and the room for its directory.
+fn check_container(container: &[u8]) -> InputCheck
+    ensures { λ r. ⌜ inputSays r ≡ checkContainer (now (container .entry)) ⌝ }
+{
+    let len = container.len();
+    let count = two(container, 0) as usize;
+    if (65_536 < len) | (len < 2) | !((2 <= count) & (count <= 9)) | (len < 2 + 8 * count) {
+        InputCheck::Refused(InputRefusal::Container)
+    } else {
+        InputCheck::Accepted
+    }
+}
+
+// 11, then 12.
+pub fn check_layout(container: &[u8]) -> InputCheck
+    ensures { λ r. ⌜ inputSays r ≡ andThen (checkContainer (now (container .entry))) (checkDirectory 12 (now (container .entry))) ⌝ }
+{
+    let found = check_container(container);
+    let InputCheck::Accepted = found else {
+        return found;
+    };
+    match check_directory(container) {
+        DirectoryCheck::Right => InputCheck::Accepted,
+        DirectoryCheck::Wrong(place) => InputCheck::Refused(InputRefusal::Directory(place)),
+    }
+}

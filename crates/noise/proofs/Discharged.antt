@@ -6,7 +6,7 @@ use Rattle.label_words.specs.Answers.{labelSays}
 use Rattle.label_discharge.specs.Discharge.{forbidsN, afterN, noiseAnswer}
 use Rattle.label_words.specs.WellFormed.{wellFormed}
 use Rattle.label_words.specs.declared.LabelAnswer.{LabelAnswer}
-use Rattle.extension.proofs.Leaves.{leaves, leaves-after}
+use Rattle.cells.proofs.Leaves.{leaves, leaves-after}
 use Rattle.label_laws.proofs.Laws.{after-N}
 use Rattle.noise_refusal.proofs.Laws.{answered}
 

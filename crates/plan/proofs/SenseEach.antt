@@ -4,7 +4,7 @@ use mathlib.Core.Path.{_≡_, refl}
 use mathlib.Core.Bool.{Bool, true, false, cond}
 use mathlib.Core.List.{List, [], _∷_, _++_, map}
 use native.Mathlib.Omega.{arith}
-use lib.ListN.{length, getD}
+use lib.ListN.{length, getD, take, drop}
 use Rattle.plan.specs.Table.{Each}
 
 module _ {A : Type 0} where
@@ -42,6 +42,16 @@ module _ {A : Type 0} where
   pub each-weaken : (P Q : A → Type 0) → ((x : A) → P x → Q x) → (xs : List A) → Each P xs → Each Q xs
   each-weaken P Q h [] p = tt
   each-weaken P Q h (x ∷ xs) p = (h x (p .0), each-weaken P Q h xs (p .1))
+
+  pub each-take : (P : A → Type 0) (n : ℕ) (xs : List A) → Each P xs → Each P (take n xs)
+  each-take P zero xs p = tt
+  each-take P (suc n) [] p = tt
+  each-take P (suc n) (x ∷ xs) p = (p .0, each-take P n xs (p .1))
+
+  pub each-drop : (P : A → Type 0) (n : ℕ) (xs : List A) → Each P xs → Each P (drop n xs)
+  each-drop P zero xs p = p
+  each-drop P (suc n) [] p = tt
+  each-drop P (suc n) (x ∷ xs) p = each-drop P n xs (p .1)
 
 pub each-map : {A B : Type 0} (P : A → Type 0) (Q : B → Type 0) (f : A → B) → ((x : A) → P x → Q (f x)) → (xs : List A) → Each P xs → Each Q (map f xs)
 each-map P Q f h [] p = tt

@@ -6,7 +6,7 @@ use input::InputRefusal;
 use memory::Refusal;
 use release::ReleaseAnswer;
 
-// A release with its rows, its columns and the bytes of its text, or a refusal. 1 is `TooShort`; a refusal of the input, 11 to 20, has its
+// A release with its rows, its columns and the bytes of its text, or a refusal. 1 is `TooShort`; a refusal of the input, 11 to 22, has its
 // place, and one of a step, 31 to 34 or 37, the step's number; 35 is `StageLeft` and 36 `Over`, at a step, row and column; 51 is `NoRoom`, at the
 // number of steps.
 pub enum RunAnswer {

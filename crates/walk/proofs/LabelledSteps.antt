@@ -1,12 +1,9 @@
 -- What a step makes has labels that are well-formed where those it reads are. Assumes nothing.
 use Prim.Native.Nat.{ℕ, suc}
 use mathlib.Core.Path.{_≡_}
-use mathlib.Core.Bool.{true}
 use mathlib.Core.List.{List, [], _∷_}
 use lib.ListN.{take}
-use Rattle.accepted.specs.Accepted.{Sound}
 use Rattle.input.specs.Verdict.{accepted}
-use Rattle.label_words.specs.WellFormed.{wellFormed}
 use Rattle.cells.specs.promises.Labelled.{Formed, LabelledRow, Labelled}
 use Rattle.plan.specs.Filter.{passes, filtered}
 use Rattle.plan.specs.Join.{matches, joinedRow, joinedTo, joinedRows, joined}
@@ -14,19 +11,20 @@ use Rattle.plan.specs.Keep.{keptRow, kept}
 use Rattle.plan.specs.Scan.{scanned}
 use Rattle.plan.specs.Steps.{make}
 use Rattle.plan.specs.Supply.{Supply}
-use Rattle.plan.specs.Table.{Cell, Row, Table, noTable, top, second, Each}
+use Rattle.plan.specs.Sheets.{InputTable, marksOf, withMarks, allWithMarks}
+use Rattle.plan.specs.Table.{Row, Table, noTable, top, second, Each}
 use Rattle.plan.specs.Union.{united}
 use Rattle.plan.specs.declared.Step.{Step}
 use Rattle.plan.specs.declared.Step.the-variants.{Scan, Union, Join, Filter, Keep, Apply, Group, Noise}
-use Rattle.value.specs.Range.{inRange}
 use Rattle.apply.proofs.Laws.{applied-labelled}
-use Rattle.accepted.proofs.AcceptedTables.{tables-sound}
-use Rattle.demands.proofs.Widths.{each-take, each-drop, each-weaker}
+use Rattle.accepted.proofs.AcceptedTables.{rows-each}
+use Rattle.overlaid.proofs.Overlaid.{overlays-formed}
+use Rattle.plan.proofs.SenseEach.{each-take, each-drop}
 use Rattle.group.proofs.Laws.{grouped-labelled}
 use Rattle.noise.proofs.Laws.{noisy-labelled}
 use Rattle.cells.proofs.LabelledTables.{top-labelled, kept-formed, passing-formed}
 use Rattle.plan.proofs.SenseShape.{each-append, each-get, each-cond, each-map}
-use Rattle.demands.specs.Given.{Given, checkGiven, prepared}
+use Rattle.demands.specs.Given.{Given, checkGiven, tablesGiven, prepared}
 
 -- ---- labels
 
@@ -66,13 +64,12 @@ make-labelled (Apply column transform) supply stack t s = applied-labelled colum
 make-labelled (Group keys aggregate column) supply stack t s = grouped-labelled keys aggregate column (top stack) (top-labelled stack s)
 make-labelled (Noise column) supply stack t s = noisy-labelled column (supply .draws) (top stack) (top-labelled stack s)
 
--- an accepted container's tables
-abbrev SoundCell : Cell → Type 0
-SoundCell cell = (inRange (cell .value) ≡ true) × (wellFormed (cell .label) ≡ true)
-
-sound-labelled : (table : Table) → Sound table → Labelled table
-sound-labelled table =
-    each-weaker (λ row. Each SoundCell (row .cells)) LabelledRow (λ row. each-weaker SoundCell Formed (λ cell e. e .1) (row .cells)) (table .rows)
+-- an accepted input's tables
+formed-labelled : (table : ℕ) (inputs : List InputTable) → Each (λ input. Each Formed (input .cells)) inputs → Each Labelled (allWithMarks table inputs)
+unfolding withMarks
+formed-labelled table [] f = tt
+formed-labelled table (input ∷ rest) f =
+    (rows-each Formed (input .columns) (marksOf table input) (input .cells) (f .0), formed-labelled (suc table) rest (f .1))
 
 pub tables-labelled : (given : Given) → checkGiven given ≡ accepted → Each Labelled (prepared given)
-tables-labelled given e = each-weaker Sound Labelled sound-labelled (prepared given) (tables-sound (given .container) e .3)
+tables-labelled given e = formed-labelled 0 (tablesGiven given) (overlays-formed (given .container) (given .overlays) e)

@@ -19,6 +19,7 @@ use Rattle.memory.specs.promises.Stack.{ready, Ready, slot, markSlot, markPart,
 use Rattle.live_tables.specs.declared.LiveTable.{LiveTable}
 use Rattle.memory.specs.declared.Refusal.{Refusal}
 use Rattle.memory.specs.promises.Steps.{stepSays, verdict, widthsOf, Done}
+use Rattle.memory.specs.declared.StepAnswer.{StepAnswer}
 use Rattle.memory.specs.declared.StepAnswer.the-variants.{Made, Refused, DoesNotFit}
 use Rattle.live_tables.specs.declared.Stack.{Stack}
 use Rattle.memory.specs.declared.Stepped.{Stepped}
@@ -39,9 +40,11 @@ use Rattle.walk.specs.promises.Steady.{Steady}
 use Rattle.walk.specs.promises.Walk.{roomIn, stepNumber, before, leftGiven, Going, finish, Walked}
 use Rattle.walk.specs.declared.WalkAnswer.the-variants as answer
 use Rattle.accepted.proofs.AcceptedOperations.{operations-exist}
-use Rattle.accepted.proofs.AcceptedPlan.{plan-placed, steps-counted}
+use Rattle.accepted.proofs.AcceptedPlan.{steps-counted}
+use Rattle.demands.proofs.Prepared.{container-ok, placed-given}
 use Rattle.walk.proofs.LabelledSteps.{make-labelled, tables-labelled}
-use Rattle.demands.proofs.Widths.{each-drop, placed-after}
+use Rattle.demands.proofs.Widths.{placed-after}
+use Rattle.plan.proofs.SenseEach.{each-drop}
 use Rattle.cells.proofs.Rows.{marked-length}
 use Rattle.cells.proofs.CellLaws.{all-none, kept-then, marks-then}
 use Rattle.memory.proofs.Finish.{says-is, never-unfit, verdicts}
@@ -133,7 +136,7 @@ lines-written lines t₀ t e = e ∙ ap (λ (n : ℕ). flatLines lines ++ drop n
 -- the number of steps, as the readers give it
 pub count-is : (given : Given) → checkGiven given ≡ accepted → {part : List ℕ} → part ≡ partOf (given .container) 0 → {count : ℕ} → count ≡ stepCount part
     → (count ≡ length (planGiven given)) × (count ≤ 64)
-count-is given ok p e = let n = e ∙ ap stepCount p in let few = steps-counted (given .container) ok in (n ∙ sym (few .2), omega (arith, n, few))
+count-is given ok p e = let n = e ∙ ap stepCount p in let few = steps-counted (given .container) (container-ok given ok) in (n ∙ sym (few .2), omega (arith, n, few))
 
 -- the lengths that are tested
 rooms : (w : Memory) (t : List ℕ) → roomIn w t ≡ true
@@ -158,7 +161,7 @@ module _ {given : Given} (ok : checkGiven given ≡ accepted) {w₀ : Memory} {t
     lines = [];
     finished = refl;
     traced = refl;
-    places = plan-placed (given .container) ok;
+    places = placed-given given ok;
     drawn = omega arith;
     onward = refl;
     to-come = refl;
@@ -194,7 +197,7 @@ module _ {given : Given} (ok : checkGiven given ≡ accepted) {w₀ : Memory} {t
       -- the trace has room for the step's line
       pub go-room : 4 * index + 4 ≤ length t
       go-room =
-          let few = steps-counted (given .container) ok in
+          let few = steps-counted (given .container) (container-ok given ok) in
           let fit = leb-true (4 * length (g .lines) + 4) (length t) (line-fits (g .lines) t t₀ (g .traced) (omega (arith, few, g .finished, leb-true 256 (length t₀) (rooms w₀ t₀ long .2)))) in
           omega (arith, fit, g .finished)
 
@@ -207,7 +210,7 @@ module _ {given : Given} (ok : checkGiven given ≡ accepted) {w₀ : Memory} {t
           record {
             accepted-is = ok;
             fits-is = rw (le-leb markRoom (length (w .marks)) go-marks, to-ready (length (w .work .values)) (length (w .work .labels)) stack (g .is-ready), enough, there);
-            exists = each-get (λ step. operationExists step ≡ true) (planGiven given) index Union refl (operations-exist (given .container) ok);
+            exists = each-get (λ step. operationExists step ≡ true) (planGiven given) index Union refl (operations-exist (given .container) (container-ok given ok));
             labelled = g .labelled;
           }
 
@@ -217,6 +220,28 @@ module _ {given : Given} (ok : checkGiven given ≡ accepted) {w₀ : Memory} {t
       evaluates =
           g .onward
           ∙ ap (before (g .lines)) (ap (evaluateFrom supply index live) (drop-next (planGiven given) index Union h) ∙ evaluate-next supply index live next rest)
+
+      -- what a step answers that makes no table
+      module _ (given-answer : StepAnswer) {w′ : Memory} (says-so : stepSays given-answer ≡ says (verdict next supply live)) (kept-so : AllKept w w′) where
+        -- a step always fits
+        pub go-fits : given-answer ≡ DoesNotFit → ⊥
+        go-fits e = never-unfit (sym (ap stepSays e) ∙ says-so)
+
+        -- a refused step: the evaluation is refused at it
+        pub go-refused : (refusal : Refusal) → given-answer ≡ Refused refusal → Walked given w₀ t₀ (answer.Refused index refusal) w′ t
+        go-refused refusal e =
+            let v = verdicts refusal in
+            let comes : evaluation given ≡ before (g .lines) (record { outcome = refuse (v .number) index (v .row) (v .column); trace = [] })
+            = evaluates ∙ ap (λ (r : Verdict). before (g .lines) (ending r index (past supply index live next rest))) (says-is (sym says-so ∙ ap stepSays e) ∙ v .is) in
+            let traces : evaluation given .trace ≡ g .lines = ap (λ (r : Result). r .trace) comes ∙ before-trace (g .lines) _ ∙ append-nil (g .lines) in (
+              record {
+                long = long;
+                accepted-is = ok;
+                kept = all-then (g .kept) kept-so;
+                traced = lines-written (g .lines) t₀ t (g .traced) ∙ ap (λ (lines : List Line). written (flatLines lines) t₀) (sym traces);
+              },
+              ap (λ (r : Result). r .outcome) comes ∙ before-outcome (g .lines) _ ∙ sym (v .tells (λ number row column. refuse number index row column)),
+            )
 
       module _ {done : Stepped} {w′ : Memory} (d : Done next supply w stack done w′) where
         says-so : stepSays (done .answer) ≡ says (verdict next supply live)
@@ -265,26 +290,6 @@ module _ {given : Given} (ok : checkGiven given ≡ accepted) {w₀ : Memory} {t
           pub go-on : (t′ : List ℕ) (n : ℕ) → n ≡ drawsUsed next (length (top live .rows)) → t′ ≡ withLine index (lineOf next (top (stackIn w′ (done .stack)))) t
               → Going given w₀ t₀ (index + 1) (used + n) w′ t′ (done .stack)
           go-on t′ n e a = subst (λ (i : ℕ). Going given w₀ t₀ i (used + n) w′ t′ (done .stack)) (sym (add-one index)) (going-on t′ n e a)
-
-        -- a step always fits
-        pub go-fits : done .answer ≡ DoesNotFit → ⊥
-        go-fits e = never-unfit (sym (ap stepSays e) ∙ says-so)
-
-        -- a refused step: the evaluation is refused at it
-        pub go-refused : (refusal : Refusal) → done .answer ≡ Refused refusal → Walked given w₀ t₀ (answer.Refused index refusal) w′ t
-        go-refused refusal e =
-            let v = verdicts refusal in
-            let comes : evaluation given ≡ before (g .lines) (record { outcome = refuse (v .number) index (v .row) (v .column); trace = [] })
-            = evaluates ∙ ap (λ (r : Verdict). before (g .lines) (ending r index (past supply index live next rest))) (says-is (sym says-so ∙ ap stepSays e) ∙ v .is) in
-            let traces : evaluation given .trace ≡ g .lines = ap (λ (r : Result). r .trace) comes ∙ before-trace (g .lines) _ ∙ append-nil (g .lines) in (
-              record {
-                long = long;
-                accepted-is = ok;
-                kept = all-then (g .kept) (d .kept);
-                traced = lines-written (g .lines) t₀ t (g .traced) ∙ ap (λ (lines : List Line). written (flatLines lines) t₀) (sym traces);
-              },
-              ap (λ (r : Result). r .outcome) comes ∙ before-outcome (g .lines) _ ∙ sym (v .tells (λ number row column. refuse number index row column)),
-            )
 
     -- all steps are finished, and one table is left
     pub go-end : (count : ℕ) → count ≡ length (planGiven given) → index ≡ count → {left : LiveTable} → left ≡ liveTable stack 0

@@ -1,43 +1,59 @@
 // The steps of a plan, from the first to the last or to a refusal.
 ghost use mathlib.Core.Path.{_≡_};
 ghost use mathlib.Core.Bool.{true};
-ghost use mathlib.Core.List.{List};
 ghost use Prim.Native.Nat.{_<_};
-ghost use lib.IntN.{ℤ};
 ghost use lib.ListN.{length};
 ghost use Rattle.cells.specs.promises.Work.{memoryOf};
-ghost use Rattle.demands.specs.Given.{given, checkGiven, planGiven};
+ghost use Rattle.demands.specs.Given.{Given, given, checkGiven, planGiven};
 ghost use Rattle.input.specs.Verdict.{accepted};
 ghost use Rattle.walk.specs.promises.Walk.{stepNumber, Walked};
 ghost use Rattle.walk_slices.specs.promises.Slices.{walkRoom};
 use super::WalkAnswer;
 use input::InputCheck;
 use memory::StepAnswer;
+use overlaying::overlay_step;
 use plan::Step;
 use records::Found;
 use walk_slices::has_room;
 use walk_slices::write_step;
 
-// Takes the steps of a container's plan, with draws for its NOISE steps, and writes the lines of those that are finished to the trace's
-// start. Work memory and the trace are long enough where they have 8,192 elements, 1,024 marks and 256 elements.
+// Takes the steps of a container's plan, with draws for its NOISE steps and overlays composed onto its tables' labels, and writes the lines of
+// those that are finished to the trace's start. Work memory and the trace are long enough where they have 8,192 elements, 1,024 marks and 256
+// elements.
 pub fn walk(
     container: &[u8],
     draws: &[i64],
+    overlay_0: &[u8],
+    overlay_1: &[u8],
+    overlay_2: &[u8],
+    overlay_3: &[u8],
     values: &mut [i64],
     labels: &mut [u32],
     marks: &mut [u64],
     trace: &mut [u32],
 ) -> WalkAnswer
-    ensures { λ r. ⌜ Walked (given (now (container .entry)) (now (draws .entry)))
+    ensures { λ r. ⌜ Walked (given (now (container .entry)) (now (draws .entry)) (now (overlay_0 .entry)) (now (overlay_1 .entry))
+        (now (overlay_2 .entry)) (now (overlay_3 .entry)))
         (memoryOf (now (values .entry)) (now (labels .entry)) (now (marks .entry))) (now (trace .entry)) r
         (memoryOf (now (values .exit)) (now (labels .exit)) (now (marks .exit))) (now (trace .exit)) ⌝ }
 {
     if !has_room(values.len(), labels.len(), marks.len(), trace.len()) {
         return WalkAnswer::TooShort;
     }
-    match container::check_input(container) {
+    match overlays::check_all(container, overlay_0, overlay_1, overlay_2, overlay_3) {
         InputCheck::Refused(refusal) => WalkAnswer::Input(refusal),
-        InputCheck::Accepted => take_steps(container, draws, values, labels, marks, trace),
+        InputCheck::Accepted => take_steps(
+            container,
+            draws,
+            overlay_0,
+            overlay_1,
+            overlay_2,
+            overlay_3,
+            values,
+            labels,
+            marks,
+            trace,
+        ),
     }
 }
 
@@ -45,14 +61,19 @@ pub fn walk(
 fn take_steps(
     container: &[u8],
     draws: &[i64],
+    overlay_0: &[u8],
+    overlay_1: &[u8],
+    overlay_2: &[u8],
+    overlay_3: &[u8],
     values: &mut [i64],
     labels: &mut [u32],
     marks: &mut [u64],
     trace: &mut [u32],
 ) -> WalkAnswer
-    requires { ⌜ (checkGiven (given (now container) (now draws)) ≡ accepted)
+    requires { ⌜ (checkGiven (given (now container) (now draws) (now overlay_0) (now overlay_1) (now overlay_2) (now overlay_3)) ≡ accepted)
         × (walkRoom (length (now values)) (length (now labels)) (length (now marks)) (length (now trace)) ≡ true) ⌝ }
-    ensures { λ r. ⌜ Walked (given (now (container .entry)) (now (draws .entry)))
+    ensures { λ r. ⌜ Walked (given (now (container .entry)) (now (draws .entry)) (now (overlay_0 .entry)) (now (overlay_1 .entry))
+        (now (overlay_2 .entry)) (now (overlay_3 .entry)))
         (memoryOf (now (values .entry)) (now (labels .entry)) (now (marks .entry))) (now (trace .entry)) r
         (memoryOf (now (values .exit)) (now (labels .exit)) (now (marks .exit))) (now (trace .exit)) ⌝ }
 {
@@ -83,6 +104,15 @@ fn take_steps(
             StepAnswer::Made => {}
         }
         stack = stepped.stack;
+        overlay_step(
+            overlay_0,
+            overlay_1,
+            overlay_2,
+            overlay_3,
+            labels,
+            stack,
+            next,
+        );
         write_step(labels, trace, stack, index, next);
         used += kinds::draws_used(next, top.rows);
         index += 1;
@@ -93,8 +123,8 @@ fn take_steps(
 
 // The step at an index of an accepted container's plan.
 fn step_number(container: &[u8], index: usize) -> Step
-    ensures { λ r. ⌜ ((draws : List ℤ) → checkGiven (given (now (container .entry)) draws) ≡ accepted
-        → index < length (planGiven (given (now (container .entry)) draws)) → r ≡ stepNumber (given (now (container .entry)) draws) index) ⌝ }
+    ensures { λ r. ⌜ ((given : Given) → given .container ≡ now (container .entry) → checkGiven given ≡ accepted → index < length (planGiven given)
+        → r ≡ stepNumber given index) ⌝ }
 {
     match plan_part::step_at(layout::part(container, 0), index) {
         Found::Step(step) => step,

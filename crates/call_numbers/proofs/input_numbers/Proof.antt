@@ -28,6 +28,12 @@ enum-known-refusal-5 c = search needs
 enum-known-refusal-6 : tie.Need-enum-known-refusal-6
 enum-known-refusal-6 c = search needs
 
+enum-known-refusal-7 : tie.Need-enum-known-refusal-7
+enum-known-refusal-7 c = search needs
+
+enum-known-refusal-8 : tie.Need-enum-known-refusal-8
+enum-known-refusal-8 c = search needs
+
 plan-numbers-requires : tie.Need-plan-numbers-requires
 plan-numbers-requires c κs = search needs
 
@@ -52,6 +58,12 @@ returns-6 c = (sym (ap (inputTells two) (c .before .refusal5 .given .1)), omega 
 returns-7 : tie.Need-returns-7
 returns-7 c = (c .plan-numbers .ensures .0 ∙ sym (ap (inputTells two) (c .before .before .refusal6 .given .1)), c .plan-numbers .ensures .1)
 
+returns-8 : tie.Need-returns-8
+returns-8 c = (sym (ap (inputTells two) (c .before .refusal7 .given .1)), omega arith)
+
+returns-9 : tie.Need-returns-9
+returns-9 c = (sym (ap (inputTells two) (c .before .refusal8 .given .1)), omega arith)
+
 pub input-numbers-spec : {M : Type 1} → statement M
 input-numbers-spec =
     tie.close
@@ -64,10 +76,14 @@ input-numbers-spec =
     enum-known-refusal-5
     enum-known-refusal-6
     plan-numbers-requires
+    enum-known-refusal-7
+    enum-known-refusal-8
     returns
     returns-2
     returns-3
     returns-4
     returns-5
     returns-6
-    returns-7)
+    returns-7
+    returns-8
+    returns-9)

@@ -11,7 +11,7 @@ use borrow.Author.Needs.{needs}
 use borrow.Author.Tests.{le-leb}
 use Rattle.demands.specs.Answers.{Told}
 use Rattle.call_demands.specs.Calls.{RunCall, numbersOf, runCalled, runCall}
-use Rattle.demands.specs.Given.{given}
+use Rattle.demands.specs.Given.{Given, given}
 use Rattle.demands.specs.Lent.{Lent, enough, lent}
 use Rattle.call_demands.proofs.CallProof.{long-call}
 use Rattle.demands.proofs.Texts.{answer-same}
@@ -23,22 +23,27 @@ same : (n : ℕ) → n ≤ n
 same n = omega arith
 
 -- the number does not hang on what the lent slices hold
-number-same : (container : List ℕ) (draws v : List ℤ) (l m : List ℕ) (o : List ℤ) (t x answer : List ℕ) {number : ℕ} {left : Lent} {told : List ℕ}
-    → runCalled number left told ≡ runCall (given container draws) (lent v l m o t x) answer → 8192 ≤ length v → 8192 ≤ length l → 1024 ≤ length m → 2048 ≤ length o → 256 ≤ length t
-    → 35097 ≤ length x → 4 ≤ length answer → CallNumber container draws number
-number-same container draws v l m o t x answer e a b n c d f g other others h r k =
+number-same : (given : Given) (v : List ℤ) (l m : List ℕ) (o : List ℤ) (t x answer : List ℕ) {number : ℕ} {left : Lent} {told : List ℕ}
+    → runCalled number left told ≡ runCall given (lent v l m o t x) answer → 8192 ≤ length v → 8192 ≤ length l → 1024 ≤ length m → 2048 ≤ length o → 256 ≤ length t
+    → 35097 ≤ length x → 4 ≤ length answer → CallNumber given number
+number-same given v l m o t x answer e a b n c d f g other others h r k =
     let long : enough (lent v l m o t x) ≡ true = rw (le-leb 8192 (length v) a, le-leb 8192 (length l) b, le-leb 1024 (length m) n, le-leb 2048 (length o) c, le-leb 256 (length t) d) in
-    ap (λ (r : RunCall). r .number) (e ∙ long-call (given container draws) (lent v l m o t x) answer g)
-    ∙ ap (λ (told : Told). getD (numbersOf told) 0 0) (answer-same (given container draws) (lent v l m o t x) other long h f r)
-    ∙ sym (ap (λ (r : RunCall). r .number) (long-call (given container draws) other others k))
+    ap (λ (r : RunCall). r .number) (e ∙ long-call given (lent v l m o t x) answer g)
+    ∙ ap (λ (told : Told). getD (numbersOf told) 0 0) (answer-same given (lent v l m o t x) other long h f r)
+    ∙ sym (ap (λ (r : RunCall). r .number) (long-call given other others k))
 
 -- the call, and what stands before it
 abbrev start : tie.After-cilunovay-run → tie.Start
-start c = c .before .before .before .before .before .before .before .before .before
+start c = c .before .before .before .before .before .before .before .before .before .before .before .before .before
 
-called : (c : tie.After-cilunovay-run) → CallNumber (now (start c .args .container)) (now (start c .args .draws)) (c .cilunovay-run .result)
+abbrev given-at : tie.Start → Given
+given-at s =
+    let a = s .args in
+    given (now (a .container)) (now (a .draws)) (now (a .overlay-0)) (now (a .overlay-1)) (now (a .overlay-2)) (now (a .overlay-3))
+
+called : (c : tie.After-cilunovay-run) → CallNumber (given-at (start c)) (c .cilunovay-run .result)
 called c =
-    number-same (now (start c .args .container)) (now (start c .args .draws)) _ _ _ _ _ _ _ (c .cilunovay-run .ensures)
+    number-same (given-at (start c)) _ _ _ _ _ _ _ (c .cilunovay-run .ensures)
     (same 8192) (same 8192) (same 1024) (same 2048) (same 256) (same 35097) (same 4)
 
 slice-aggregate-cilunovay-run : tie.Need-slice-aggregate-cilunovay-run

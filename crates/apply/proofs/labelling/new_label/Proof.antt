@@ -6,7 +6,7 @@ use Rattle.label_discharge.specs.Discharge.{afterT}
 use Rattle.label_words.specs.declared.LabelAnswer.{LabelAnswer}
 use Rattle.plan.specs.Numbers.{transformCode, digitsTaken}
 use Rattle.apply.proofs.Discharged.{leaves-is}
-use Rattle.extension.proofs.Leaves.{leaves, leaves-word}
+use Rattle.cells.proofs.Leaves.{leaves, leaves-word}
 use Rattle.apply.proofs.labelling.new_label.Statement.{statement}
 use Rattle.apply.proofs.labelling.new_label.Tie as tie
 

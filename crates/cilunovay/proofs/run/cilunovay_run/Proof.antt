@@ -2,7 +2,7 @@
 use native.Mathlib.Omega.{arith}
 use lib.ListN.{length-set}
 use denote.Ref.{now}
-use Rattle.demands.specs.Given.{given}
+use Rattle.demands.specs.Given.{Given, given}
 use Rattle.demands.specs.Lent.{lent}
 use Rattle.cilunovay.proofs.CallMeaning.{run-short, run-long}
 use borrow.Author.Needs.{needs}
@@ -11,12 +11,17 @@ use Rattle.cilunovay.proofs.run.cilunovay_run.Tie as tie
 
 -- what stands before the test of the answer's length
 abbrev start : tie.After-slice-known5 → tie.Start
-start c = c .before .before .before .before .before .before
+start c = c .before .before .before .before .before .before .before .before .before .before
+
+abbrev given-at : tie.Start → Given
+given-at s =
+    let a = s .args in
+    given (now (a .container)) (now (a .draws)) (now (a .overlay-0)) (now (a .overlay-1)) (now (a .overlay-2)) (now (a .overlay-3))
 
 returns : tie.Need-returns
 returns c =
     let a = start (c .before) .args in
-    run-short (given (now (a .container)) (now (a .draws))) (lent (now (a .values)) (now (a .labels)) (now (a .marks)) (now (a .output)) (now (a .trace)) (now (a .text))) (now (a .answer)) (c .if1 .taken)
+    run-short (given-at (start (c .before))) (lent (now (a .values)) (now (a .labels)) (now (a .marks)) (now (a .output)) (now (a .trace)) (now (a .text))) (now (a .answer)) (c .if1 .taken)
 
 run-requires : tie.Need-run-requires
 run-requires c κs = search needs
@@ -80,7 +85,7 @@ returns-2 c =
     let run = c .before .before .before .before .before .before .before .before .before .before .before in
     let e = run .before .before .before .before .before .before .before in
     let a = start (e .before) .args in
-    run-long (given (now (a .container)) (now (a .draws))) (lent (now (a .values)) (now (a .labels)) (now (a .marks)) (now (a .output)) (now (a .trace)) (now (a .text))) (now (a .answer)) (e .if1 .left)
+    run-long (given-at (start (e .before))) (lent (now (a .values)) (now (a .labels)) (now (a .marks)) (now (a .output)) (now (a .trace)) (now (a .text))) (now (a .answer)) (e .if1 .left)
     (run .run .ensures) (c .run-numbers .ensures .0)
 
 pub cilunovay-run-spec : {M : Type 1} → statement M

@@ -3,7 +3,8 @@ use mathlib.Core.Path.{_≡_, sym}
 use borrow.Author.Needs.{needs}
 use Rattle.container.specs.Check.{checkInput}
 use Rattle.input.specs.Verdict.{accepted}
-use Rattle.layout_check.specs.Checks.{checkContainer, checkDirectory}
+use Rattle.directory.specs.Directory.{checkDirectory}
+use Rattle.layout_check.specs.Checks.{checkContainer}
 use Rattle.input.proofs.Laws.{both, stands, passes, taken-together}
 use Rattle.container.proofs.checks.check_input.Statement.{statement}
 use Rattle.container.proofs.checks.check_input.Tie as tie
@@ -20,7 +21,7 @@ enum-told-2 c = search needs
 
 -- 11 and 12 are passed
 laid-out : (c : tie.After-enum-told) → let bytes = now (c .before .before .before .before .args .container) in
-    (checkContainer bytes ≡ accepted) × (checkDirectory bytes ≡ accepted)
+    (checkContainer bytes ≡ accepted) × (checkDirectory 12 bytes ≡ accepted)
 laid-out c = both _ _ (passes _ _ (c .before .before .check-layout .ensures) (c .enum-told .given .1))
 
 returns : tie.Need-returns
@@ -28,7 +29,7 @@ unfolding checkInput
 returns c =
     let k = c .before .before in
     let bytes = now (k .before .before .args .container) in
-    rw (← taken-together (checkContainer bytes) (checkDirectory bytes) _, ← k .check-layout .ensures)
+    rw (← taken-together (checkContainer bytes) (checkDirectory 12 bytes) _, ← k .check-layout .ensures)
     (sym (stands (k .check-layout .result) _ (c .enum-told2 .given .1)))
 
 check-tables-requires : tie.Need-check-tables-requires

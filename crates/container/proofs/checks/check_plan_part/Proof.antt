@@ -5,7 +5,7 @@ use native.Mathlib.Omega.{arith}
 use lib.ListN.{length, take, length-take}
 use borrow.Author.Needs.{needs}
 use Rattle.container.proofs.TablesLeft.{all-there}
-use Rattle.layout_check.proofs.Pairs.{Sized, sized}
+use Rattle.layout_check.proofs.Sized.{Sized, sized}
 use Rattle.container.proofs.checks.check_plan_part.Statement.{statement}
 use Rattle.container.proofs.checks.check_plan_part.Tie as tie
 use denote.Ref.{now}

@@ -4,7 +4,7 @@ use mathlib.Core.Logic.{⊎-elim}
 use denote.Ref.{now}
 use borrow.Author.Needs.{needs}
 use Rattle.cells.specs.promises.Work.{Memory, memoryOf}
-use Rattle.demands.specs.Given.{given}
+use Rattle.demands.specs.Given.{Given, given}
 use Rattle.run_answers.specs.Answers.{runSays}
 use Rattle.walk.specs.declared.WalkAnswer.{WalkAnswer}
 use Rattle.walk.specs.promises.Walk.{Walked}
@@ -14,25 +14,30 @@ use Rattle.evaluator.proofs.monitor.run.Tie as tie
 
 -- the walk, and what stands before it
 abbrev start : tie.After-walk → tie.Start
-start c = c .before .before .before .before .before .before .before .before .before .before .before
+start c = c .before .before .before .before .before .before .before .before .before .before .before .before .before .before .before
 
 -- what the run is given, and its slices
+abbrev given-at : tie.Start → Given
+given-at s =
+    let a = s .args in
+    given (now (a .container)) (now (a .draws)) (now (a .overlay-0)) (now (a .overlay-1)) (now (a .overlay-2)) (now (a .overlay-3))
+
 abbrev memory : tie.Start → Memory
 memory c = let a = c .args in memoryOf (now (a .values)) (now (a .labels)) (now (a .marks))
 
 abbrev walkedMemory : tie.After-walk → Memory
-walkedMemory k = memoryOf (k .walk .last .1 .1 .0) (k .walk .last .1 .1 .1 .0) (k .walk .last .1 .1 .1 .1 .0)
+walkedMemory k = memoryOf (k .walk .last .1 .1 .1 .1 .1 .1 .0) (k .walk .last .1 .1 .1 .1 .1 .1 .1 .0) (k .walk .last .1 .1 .1 .1 .1 .1 .1 .1 .0)
 
 walked : (k : tie.After-walk) {answer : WalkAnswer} → k .walk .result ≡ answer → let a = start k .args in
-    Walked (given (now (a .container)) (now (a .draws))) (memory (start k)) (now (a .trace)) answer (walkedMemory k) (k .walk .last .1 .1 .1 .1 .1 .0)
+    Walked (given-at (start k)) (memory (start k)) (now (a .trace)) answer (walkedMemory k) (k .walk .last .1 .1 .1 .1 .1 .1 .1 .1 .1 .0)
 walked k e = let a = start k .args in
-    subst (λ (r : WalkAnswer). Walked (given (now (a .container)) (now (a .draws))) (memory (start k)) (now (a .trace)) r (walkedMemory k) (k .walk .last .1 .1 .1 .1 .1 .0)) e (k .walk .ensures)
+    subst (λ (r : WalkAnswer). Walked (given-at (start k)) (memory (start k)) (now (a .trace)) r (walkedMemory k) (k .walk .last .1 .1 .1 .1 .1 .1 .1 .1 .1 .0)) e (k .walk .ensures)
 
 returns : tie.Need-returns
 returns c =
-    let s = c .before .before .before .before .before .before in
+    let s = c .before .before .before .before .before .before .before .before .before .before in
     let a = s .args in
-    output-short (given (now (a .container)) (now (a .draws))) (memory s) (now (a .output)) (now (a .trace)) (now (a .text)) (c .if1 .taken)
+    output-short (given-at s) (memory s) (now (a .output)) (now (a .trace)) (now (a .text)) (c .if1 .taken)
 
 walk-requires : tie.Need-walk-requires
 walk-requires c κs = search needs
@@ -56,7 +61,7 @@ returns-2 : tie.Need-returns-2
 returns-2 c =
     let k = c .before .before .before .before .before .before .before .before .before in
     let a = start k .args in
-    work-short (given (now (a .container)) (now (a .draws))) (memory (start k)) (now (a .output)) (now (a .trace)) (now (a .text)) (k .before .before .before .before .before .if1 .left) (walked k (c .enum-told .given .1))
+    work-short (given-at (start k)) (memory (start k)) (now (a .output)) (now (a .trace)) (now (a .text)) (k .before .before .before .before .before .if1 .left) (walked k (c .enum-told .given .1))
 
 enum-known-refusal : tie.Need-enum-known-refusal
 enum-known-refusal c = search needs
@@ -77,7 +82,7 @@ returns-3 : tie.Need-returns-3
 returns-3 c =
     let k = c .before .before .before .before .before .before .before .before .before .before in
     let a = start k .args in
-    input-refused (given (now (a .container)) (now (a .draws))) (memory (start k)) (now (a .output)) (now (a .trace)) (now (a .text)) (k .before .before .before .before .before .if1 .left) (c .before .refusal .given .0 .0) (walked k (c .before .refusal .given .1))
+    input-refused (given-at (start k)) (memory (start k)) (now (a .output)) (now (a .trace)) (now (a .text)) (k .before .before .before .before .before .if1 .left) (c .before .refusal .given .0 .0) (walked k (c .before .refusal .given .1))
 
 enum-known-step : tie.Need-enum-known-step
 enum-known-step c = search needs
@@ -93,15 +98,15 @@ of-release-requires c κs = search needs
 
 -- the arms meet
 evaluated : (c : tie.At-match-came) → let k = c .before .before .before .before .before .before .before .before in let a = start k .args in
-    Evaluated (given (now (a .container)) (now (a .draws))) (memory (start k)) (now (a .output)) (now (a .trace)) (now (a .text)) (runSays (c .match .answer))
-    (walkedMemory k) (c .match .output) (k .walk .last .1 .1 .1 .1 .1 .0) (c .match .text)
+    Evaluated (given-at (start k)) (memory (start k)) (now (a .output)) (now (a .trace)) (now (a .text)) (runSays (c .match .answer))
+    (walkedMemory k) (c .match .output) (k .walk .last .1 .1 .1 .1 .1 .1 .1 .1 .1 .0) (c .match .text)
 evaluated c =
     let k = c .before .before .before .before .before .before .before .before in
     let a = start k .args in
     let long = k .before .before .before .before .before .if1 .left in
     ⊎-elim
-    (λ w. rw (w .3, w .4, w .5) (step-refused (given (now (a .container)) (now (a .draws))) (memory (start k)) (now (a .output)) (now (a .trace)) (now (a .text)) long (w .1 .given .0 .0) (w .1 .given .0 .1 .0) (walked k (w .1 .given .1))))
-    (λ w. rw (w .12, w .13, w .14) (steps-released (given (now (a .container)) (now (a .draws))) (memory (start k)) (now (a .output)) (now (a .trace)) (now (a .text)) long _ _ _ (walked k (w .1 .given .1)) (w .7 .ensures) (w .11 .ensures)))
+    (λ w. rw (w .3, w .4, w .5) (step-refused (given-at (start k)) (memory (start k)) (now (a .output)) (now (a .trace)) (now (a .text)) long (w .1 .given .0 .0) (w .1 .given .0 .1 .0) (walked k (w .1 .given .1))))
+    (λ w. rw (w .12, w .13, w .14) (steps-released (given-at (start k)) (memory (start k)) (now (a .output)) (now (a .trace)) (now (a .text)) long _ _ _ (walked k (w .1 .given .1)) (w .7 .ensures) (w .11 .ensures)))
     (c .match .came)
 
 clear-memory-requires : tie.Need-clear-memory-requires
@@ -130,7 +135,7 @@ returns-4 c =
     let m = c .before .before .before .before .before .before .before .before .before in
     let k = m .before .before .before .before .before .before .before .before in
     let a = start k .args in
-    run-begun (given (now (a .container)) (now (a .draws))) (memory (start k)) (now (a .output)) (now (a .trace)) (now (a .text)) (k .before .before .before .before .before .if1 .left) (evaluated m) (c .before .before .before .before .before .clear-memory .ensures)
+    run-begun (given-at (start k)) (memory (start k)) (now (a .output)) (now (a .trace)) (now (a .text)) (k .before .before .before .before .before .if1 .left) (evaluated m) (c .before .before .before .before .before .clear-memory .ensures)
 
 pub run-spec : {M : Type 1} → statement M
 run-spec =

@@ -9,7 +9,8 @@ use Rattle.plan.specs.Group.{aggregateValue, composedAfter}
 use Rattle.plan.specs.Numbers.{aggregateCode}
 use Rattle.plan.specs.Table.{Each}
 use Rattle.group.proofs.Aggregating.{aggregate-is}
-use Rattle.group.proofs.Choosing.{rows-left, each-drop}
+use Rattle.group.proofs.Choosing.{rows-left}
+use Rattle.plan.proofs.SenseEach.{each-drop}
 use Rattle.value.proofs.Machine.{back-is}
 use Rattle.group.proofs.made.write_group.Statement.{statement}
 use Rattle.group.proofs.made.write_group.Tie as tie

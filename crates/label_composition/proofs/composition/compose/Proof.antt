@@ -12,12 +12,12 @@ well-formed-requires c κs = search needs
 well-formed-requires-2 : tie.Need-well-formed-requires-2
 well-formed-requires-2 c κs = search needs
 
-composed-requires : tie.Need-composed-requires
-composed-requires c κs = search needs
+compose-words-requires : tie.Need-compose-words-requires
+compose-words-requires c κs = search needs
 
 returns : tie.Need-returns
 unfolding composeAnswer
-returns c = rw (sym (ap₂ _&&_ (c .before .before .before .well-formed .ensures) (c .before .before .well-formed2 .ensures)) ∙ c .before .if1 .taken, c .composed .ensures)
+returns c = rw (sym (ap₂ _&&_ (c .before .before .before .well-formed .ensures) (c .before .before .well-formed2 .ensures)) ∙ c .before .if1 .taken, c .compose-words .ensures)
 
 returns-2 : tie.Need-returns-2
 unfolding composeAnswer
@@ -26,4 +26,4 @@ returns-2 c = rw (sym (ap₂ _&&_ (c .before .before .well-formed .ensures) (c .
 pub compose-spec : {M : Type 1} → statement M
 compose-spec =
     tie.close
-    (tie.spec well-formed-requires well-formed-requires-2 composed-requires returns returns-2)
+    (tie.spec well-formed-requires well-formed-requires-2 compose-words-requires returns returns-2)

@@ -4,7 +4,7 @@ use borrow.Author.Needs.{needs}
 use Rattle.label_words.specs.Answers.{labelSays}
 use Rattle.label_discharge.specs.Discharge.{afterN}
 use Rattle.label_words.specs.declared.LabelAnswer.{LabelAnswer}
-use Rattle.extension.proofs.Leaves.{leaves, leaves-word}
+use Rattle.cells.proofs.Leaves.{leaves, leaves-word}
 use Rattle.noise.proofs.Discharged.{leaves-is}
 use Rattle.noise.proofs.labelling.new_label.Statement.{statement}
 use Rattle.noise.proofs.labelling.new_label.Tie as tie

@@ -9,23 +9,24 @@ use borrow.Author.Needs.{needs}
 use Rattle.cells.specs.promises.Work.{memoryOf, markRoom, AllKept}
 use Rattle.demands.specs.Given.{Given, given, planGiven}
 use Rattle.memory.specs.promises.Stack.{stackIn}
+use Rattle.memory.specs.promises.Steps.{Done}
 use Rattle.plan.specs.Steps.{drawsUsed}
 use Rattle.plan.specs.Table.{top}
 use Rattle.step.specs.promises.Taking.{Taken}
 use Rattle.walk.specs.promises.Steady.{Steady}
-use Rattle.walk.specs.promises.Walk.{stepNumber, Going}
-use Rattle.walk.proofs.OneStep.{done-so, line-made}
+use Rattle.walk.specs.promises.Walk.{stepNumber, leftGiven, Going}
+use Rattle.walk.proofs.OneStep.{says-so, kept-so, done-so, line-made}
 use Rattle.walk.proofs.Walking.{all-then, count-is, top-rows, go-begin, go-marks, go-room, go-steady, go-drawn, go-on, go-fits, go-refused, go-end}
 use Rattle.walk.proofs.steps.take_steps.Statement.{statement}
 use Rattle.walk.proofs.steps.take_steps.Tie as tie
 
 abbrev Inv-loop : tie.InvT-loop
-Inv-loop container draws values₀ labels₀ marks₀ trace₀ count stack₀ index₀ used₀ values labels marks trace stack index used =
-    (index ≤ count) × (count ≡ length (planGiven (given container draws)))
-    × Going (given container draws) (memoryOf values₀ labels₀ marks₀) trace₀ index used (memoryOf values labels marks) trace stack × (length trace ≡ length trace₀)
+Inv-loop container draws overlay₀ overlay₁ overlay₂ overlay₃ values₀ labels₀ marks₀ trace₀ count stack₀ index₀ used₀ values labels marks trace stack index used =
+    (index ≤ count) × (count ≡ length (planGiven (given container draws overlay₀ overlay₁ overlay₂ overlay₃)))
+    × Going (given container draws overlay₀ overlay₁ overlay₂ overlay₃) (memoryOf values₀ labels₀ marks₀) trace₀ index used (memoryOf values labels marks) trace stack × (length trace ≡ length trace₀)
 
 abbrev μ-loop : tie.MeasureT-loop
-μ-loop container draws values₀ labels₀ marks₀ trace₀ count stack₀ index₀ used₀ values labels marks trace stack index used = count - index
+μ-loop container draws overlay₀ overlay₁ overlay₂ overlay₃ values₀ labels₀ marks₀ trace₀ count stack₀ index₀ used₀ values labels marks trace stack index used = count - index
 
 part-requires : tie.Need-part-requires Inv-loop μ-loop
 part-requires c κs = search needs
@@ -36,17 +37,23 @@ step-count-requires c κs = search needs
 no-tables-requires : tie.Need-no-tables-requires Inv-loop μ-loop
 no-tables-requires c κs = search needs
 
+-- what is given
+abbrev given-at : tie.Start Inv-loop μ-loop → Given
+given-at s =
+    let a = s .args in
+    given (now (a .container)) (now (a .draws)) (now (a .overlay-0)) (now (a .overlay-1)) (now (a .overlay-2)) (now (a .overlay-3))
+
 loop-holds : tie.Need-loop-holds Inv-loop μ-loop
 loop-holds c =
-    let s = c .before .before .before .before .before .before .before in
-    (omega arith, count-is (given (now (s .args .container)) (now (s .args .draws))) (s .pre .0) (c .before .before .part .ensures) (c .before .step-count .ensures) .0, go-begin (s .pre .0) (s .pre .1) (c .no-tables .ensures), refl)
+    let s = c .before .before .before .before .before .before .before .before .before .before .before in
+    (omega arith, count-is (given-at s) (s .pre .0) (c .before .before .part .ensures) (c .before .step-count .ensures) .0, go-begin (s .pre .0) (s .pre .1) (c .no-tables .ensures), refl)
 
 -- the loop is at a step of the plan
 abbrev start : tie.In-loop Inv-loop μ-loop → tie.Start Inv-loop μ-loop
-start c = c .before .before .before .before .before .before .before .before .before
+start c = c .before .before .before .before .before .before .before .before .before .before .before .before .before
 
 abbrev given-to : tie.In-loop Inv-loop μ-loop → Given
-given-to c = given (now (start c .args .container)) (now (start c .args .draws))
+given-to c = given-at (start c)
 
 inside : (c : tie.In-loop Inv-loop μ-loop) → c .before .loop .index < length (planGiven (given-to c))
 inside c = omega (arith, c .loop-test .taken, c .before .loop .inv .1)
@@ -56,7 +63,7 @@ abbrev turn : tie.After-take-step Inv-loop μ-loop → tie.In-loop Inv-loop μ-l
 turn c = c .before .before .before .before .before .before .before
 
 known : (c : tie.After-take-step Inv-loop μ-loop) → c .before .before .before .before .before .before .step-number .result ≡ stepNumber (given-to (turn c)) (turn c .before .loop .index)
-known c = c .before .before .before .before .before .before .step-number .ensures (now (start (turn c) .args .draws)) (start (turn c) .pre .0) (inside (turn c))
+known c = c .before .before .before .before .before .before .step-number .ensures (given-to (turn c)) refl (start (turn c) .pre .0) (inside (turn c))
 
 going : (c : tie.In-loop Inv-loop μ-loop)
     → Going (given-to c) (memoryOf (now (start c .args .values)) (now (start c .args .labels)) (now (start c .args .marks))) (now (start c .args .trace)) (c .before .loop .index) (c .before .loop .used)
@@ -106,18 +113,18 @@ enum-known-answer : tie.Need-enum-known-answer Inv-loop μ-loop
 enum-known-answer c = search needs
 
 -- what the steps have kept when one is refused
-kept-so : (k : tie.After-take-step Inv-loop μ-loop) → let a = start (turn k) .args in
+kept-by : (k : tie.After-take-step Inv-loop μ-loop) → let a = start (turn k) .args in
     AllKept (memoryOf (now (a .values)) (now (a .labels)) (now (a .marks))) (memoryOf (k .take-step .last .1 .1 .0) (k .take-step .last .1 .1 .1 .0) (k .take-step .last .1 .1 .1 .1 .0))
-kept-so k = let i = turn k in all-then (going i .kept) (done-so _ (i .before .loop .used) (steady i) (known k) (taken k) .kept)
+kept-by k = let i = turn k in all-then (going i .kept) (kept-so _ (i .before .loop .used) (steady i) (known k) (taken k))
 
 same-length : tie.Need-same-length Inv-loop μ-loop
-same-length c = kept-so (c .before .before .before .before .before .before .before .before) .work .as-many-values
+same-length c = kept-by (c .before .before .before .before .before .before .before .before) .work .as-many-values
 
 same-length-2 : tie.Need-same-length-2 Inv-loop μ-loop
-same-length-2 c = kept-so (c .before .before .before .before .before .before .before .before) .work .as-many-labels
+same-length-2 c = kept-by (c .before .before .before .before .before .before .before .before) .work .as-many-labels
 
 same-length-3 : tie.Need-same-length-3 Inv-loop μ-loop
-same-length-3 c = kept-so (c .before .before .before .before .before .before .before .before) .marks .as-many
+same-length-3 c = kept-by (c .before .before .before .before .before .before .before .before) .marks .as-many
 
 same-length-4 : tie.Need-same-length-4 Inv-loop μ-loop
 same-length-4 c = search needs
@@ -126,7 +133,7 @@ returns : tie.Need-returns Inv-loop μ-loop
 returns c =
     let k = c .before .before .before .before .before .before .before .before in
     let i = turn k in
-    go-refused (start i .pre .0) (start i .pre .1) (going i) (inside i) (done-so _ (i .before .loop .used) (steady i) (known k) (taken k)) _ (c .before .answer .given .1)
+    go-refused (start i .pre .0) (start i .pre .1) (going i) (inside i) _ (says-so _ (i .before .loop .used) (steady i) (known k) (taken k)) (kept-so _ (i .before .loop .used) (steady i) (known k) (taken k)) _ (c .before .answer .given .1)
 
 enum-told : tie.Need-enum-told Inv-loop μ-loop
 enum-told c = search needs
@@ -135,7 +142,7 @@ never-requires : tie.Need-never-requires Inv-loop μ-loop
 never-requires c κs =
     let k = c .before .before .before .before .before .before .before in
     let i = turn k in
-    go-fits (start i .pre .0) (start i .pre .1) (going i) (inside i) (done-so _ (i .before .loop .used) (steady i) (known k) (taken k)) (c .enum-told .given .1)
+    go-fits (start i .pre .0) (start i .pre .1) (going i) (inside i) _ (says-so _ (i .before .loop .used) (steady i) (known k) (taken k)) (kept-so _ (i .before .loop .used) (steady i) (known k) (taken k)) (c .enum-told .given .1)
 
 same-length-5 : tie.Need-same-length-5 Inv-loop μ-loop
 same-length-5 c = search needs
@@ -155,6 +162,9 @@ returns-2 c = absurd (c .never .ensures)
 enum-told-2 : tie.Need-enum-told-2 Inv-loop μ-loop
 enum-told-2 c = search needs
 
+overlay-step-requires : tie.Need-overlay-step-requires Inv-loop μ-loop
+overlay-step-requires c κs = search needs
+
 write-step-requires : tie.Need-write-step-requires Inv-loop μ-loop
 write-step-requires c κs = search needs
 
@@ -163,7 +173,7 @@ draws-used-requires c κs = search needs
 
 -- from the end of a turn: where its step was taken, and what it used
 abbrev made-is : tie.After-draws-used Inv-loop μ-loop → tie.After-enum-told2 Inv-loop μ-loop
-made-is c = c .before .before .before .before .before .before .before
+made-is c = c .before .before .before .before .before .before .before .before .before .before .before
 
 abbrev ended : tie.After-draws-used Inv-loop μ-loop → tie.After-take-step Inv-loop μ-loop
 ended c = made-is c .before .before .before .before .before .before .before
@@ -175,6 +185,16 @@ used-is c =
     let i = turn k in
     c .draws-used .ensures ∙ ap₂ drawsUsed (known k) (top-rows (memoryOf (i .before .loop .values) (i .before .loop .labels) (i .before .loop .marks)) (i .before .loop .stack) (going i .is-ready) (many i) (k .before .before .before .before .before .live-table .ensures))
 
+-- the step was taken, and the overlays are composed onto the labels of a table that it scanned
+made-so : (c : tie.After-draws-used Inv-loop μ-loop) → let k = ended c in let i = turn k in
+    Done (stepNumber (given-to i) (i .before .loop .index)) (leftGiven (given-to i) (i .before .loop .used))
+    (memoryOf (i .before .loop .values) (i .before .loop .labels) (i .before .loop .marks)) (i .before .loop .stack) (k .take-step .result)
+    (memoryOf (k .take-step .last .1 .1 .0) (c .before .before .before .before .before .before .before .before .overlay-step .last .1 .1 .1 .1 .0) (k .take-step .last .1 .1 .1 .1 .0))
+made-so c =
+    let k = ended c in
+    let i = turn k in
+    done-so _ (i .before .loop .used) (steady i) (known k) (taken k) (made-is c .enum-told2 .given .1) (many i) (c .before .before .before .before .before .before .before .before .overlay-step .ensures)
+
 -- the number of draws is one of the machine's
 few-draws : (c : tie.Start Inv-loop μ-loop) → length (now (c .args .draws)) < 2 ^ 64
 few-draws c = search needs
@@ -183,7 +203,7 @@ add-used : tie.Need-add-used Inv-loop μ-loop
 add-used c =
     let k = ended c in
     let i = turn k in
-    let few = go-drawn (start i .pre .0) (start i .pre .1) (going i) (inside i) (done-so _ (i .before .loop .used) (steady i) (known k) (taken k)) (made-is c .enum-told2 .given .1) _ (used-is c) in
+    let few = go-drawn (start i .pre .0) (start i .pre .1) (going i) (inside i) (made-so c) (made-is c .enum-told2 .given .1) _ (used-is c) in
     omega (arith, few, few-draws (start i))
 
 add-index : tie.Need-add-index Inv-loop μ-loop
@@ -200,11 +220,11 @@ loop-again c =
     let k = ended c in
     let i = turn k in
     let made = made-is c .enum-told2 .given .1 in
-    let done = done-so _ (i .before .loop .used) (steady i) (known k) (taken k) in
-    let line = line-made _ (i .before .loop .used) (steady i) (known k) (taken k) made _ (omega (arith, many i, done .kept .marks .as-many)) (go-room (start i .pre .0) (start i .pre .1) (going i) (inside i)) (c .before .before .before .write-step .ensures) in (
+    let over = c .before .before .before .before .before .before .before .before .overlay-step .ensures in
+    let line = line-made _ (i .before .loop .used) (steady i) (known k) (taken k) made (many i) over _ (go-room (start i .pre .0) (start i .pre .1) (going i) (inside i)) (c .before .before .before .write-step .ensures) in (
       omega (arith, i .loop-test .taken),
       i .before .loop .inv .1,
-      go-on (start i .pre .0) (start i .pre .1) (going i) (inside i) (done-so _ (i .before .loop .used) (steady i) (known k) (taken k)) made _ _ (used-is c) line,
+      go-on (start i .pre .0) (start i .pre .1) (going i) (inside i) (made-so c) made _ _ (used-is c) line,
       search needs,
     )
 
@@ -226,7 +246,7 @@ same-length-12 c = search needs
 returns-3 : tie.Need-returns-3 Inv-loop μ-loop
 returns-3 c =
     let e = c .before .before in
-    let s = e .before .before .before .before .before .before .before .before in
+    let s = e .before .before .before .before .before .before .before .before .before .before .before .before in
     go-end (s .pre .0) (s .pre .1) (e .loop .inv .2) _ (e .loop .inv .1) (omega (arith, e .loop .inv .0, c .before .loop-test .left)) (c .live-table2 .ensures)
 
 pub take-steps-spec : {M : Type 1} → statement M
@@ -260,6 +280,7 @@ take-steps-spec =
     same-length-8
     returns-2
     enum-told-2
+    overlay-step-requires
     write-step-requires
     draws-used-requires
     add-used

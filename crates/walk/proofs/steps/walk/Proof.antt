@@ -11,7 +11,7 @@ use Rattle.walk.proofs.steps.walk.Statement.{statement}
 use Rattle.walk.proofs.steps.walk.Tie as tie
 
 -- the slices are long enough
-long : (c : tie.Else1) → let a = c .before .before .before .before .before .before .args in walkRoom (length (now (a .values))) (length (now (a .labels))) (length (now (a .marks))) (length (now (a .trace))) ≡ true
+long : (c : tie.Else1) → let a = c .before .before .before .before .before .before .before .before .before .before .args in walkRoom (length (now (a .values))) (length (now (a .labels))) (length (now (a .marks))) (length (now (a .trace))) ≡ true
 long c = sym (c .before .has-room .ensures) ∙ not-false _ (c .if1 .left)
 
 has-room-requires : tie.Need-has-room-requires
@@ -20,8 +20,8 @@ has-room-requires c κs = search needs
 returns : tie.Need-returns
 returns c = (sym (c .before .has-room .ensures) ∙ not-true _ (c .if1 .taken), refl, refl)
 
-check-input-requires : tie.Need-check-input-requires
-check-input-requires c κs = search needs
+check-all-requires : tie.Need-check-all-requires
+check-all-requires c κs = search needs
 
 enum-known-refusal : tie.Need-enum-known-refusal
 enum-known-refusal c = search needs
@@ -32,12 +32,12 @@ enum-told c = search needs
 take-steps-requires : tie.Need-take-steps-requires
 take-steps-requires c κs =
     let k = c .before .before .before .before in
-    (sym (k .before .before .check-input .ensures) ∙ ap inputSays (k .enum-told .given .1), long (k .before .before .before))
+    (sym (k .before .before .check-all .ensures) ∙ ap inputSays (k .enum-told .given .1), long (k .before .before .before))
 
 returns-2 : tie.Need-returns-2
 returns-2 c =
     let k = c .before .before .before in
-    (long (k .before), sym (ap inputSays (c .before .refusal .given .1)) ∙ k .check-input .ensures, refl, refl)
+    (long (k .before), sym (ap inputSays (c .before .refusal .given .1)) ∙ k .check-all .ensures, refl, refl)
 
 same-length : tie.Need-same-length
 same-length c = search needs
@@ -60,7 +60,7 @@ walk-spec =
     (tie.spec
     has-room-requires
     returns
-    check-input-requires
+    check-all-requires
     enum-known-refusal
     enum-told
     take-steps-requires

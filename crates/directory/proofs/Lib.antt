@@ -1,0 +1,2 @@
+-- What the proof of `check_directory` rests on.
+pub mod Pairs

@@ -1,0 +1,3 @@
+-- x
+mod Composed
+pub mod Scanned

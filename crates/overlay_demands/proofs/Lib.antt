@@ -1,0 +1,4 @@
+-- `AboutOverlays` proves the propositions.
+mod Same
+mod Orders
+pub mod AboutOverlays

@@ -1,0 +1,3 @@
+-- A part of an overlay. These files are what a reader must believe.
+pub mod OverlayPart
+pub mod Labels

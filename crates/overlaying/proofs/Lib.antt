@@ -1,0 +1,2 @@
+-- What the proof of `overlay_step` rests on.
+pub mod Steps
