@@ -2,10 +2,11 @@
  *
  * Links with libcilunovay.a (`rt staticlib cilunovay`), for x86-64 Linux.
  *
- * cilunovay_run and cilunovay_check are proved to do what stands above them below,
- * for every container, all overlays and every length, and to return. Not proved, but
- * seen in the archive: they call only memcpy and memset and keep nothing between
- * calls, so that several threads may call them at once, each with slices of its own.
+ * cilunovay_run, cilunovay_check and cilunovay_convert are proved to do what stands
+ * above them below, for every container, all overlays and every length, and to return.
+ * Not proved, but seen in the archive: they call only memcpy and memset and keep
+ * nothing between calls, so that several threads may call them at once, each with
+ * slices of its own.
  *
  * Each slice is lent as a pointer and a number of elements. The caller owes, and
  * nothing tests: a pointer is not null, also where the number is 0, is aligned
@@ -27,6 +28,11 @@
 #define CILUNOVAY_ANSWER 4
 #define CILUNOVAY_CHECK_ANSWER 2
 
+/* Elements that a conversion needs, beside as many for the new container as the old
+ * one has; more are allowed and stay as they are. */
+#define CILUNOVAY_OFFSETS 8192 /* offsets of the labels changed */
+#define CILUNOVAY_CONVERT_ANSWER 2
+
 /* The longest text of a release, in bytes: lend so many and 51 never occurs. */
 #define CILUNOVAY_TEXT 35097
 
@@ -42,9 +48,9 @@
 #define CILUNOVAY_OVERLAY 65536
 
 /* The numbers that cilunovay_run returns and writes to answer[0], and of these 0, 1
- * and 11 to 20 cilunovay_check too; docs/REFUSALS.md says what causes each and what
- * to do. */
-#define CILUNOVAY_RELEASED 0 /* cilunovay_check: accepted */
+ * and 11 to 20 cilunovay_check and cilunovay_convert too; docs/REFUSALS.md says what
+ * causes each and what to do. */
+#define CILUNOVAY_RELEASED 0 /* cilunovay_check: accepted; cilunovay_convert: converted */
 
 /* A slice lent for writing is too short, other than that of the text. */
 #define CILUNOVAY_TOO_SHORT 1
@@ -183,6 +189,39 @@ static inline size_t cilunovay_finished(const uint8_t *container, const uint64_t
  */
 uint32_t cilunovay_check(const uint8_t *container, size_t container_length,
                          uint64_t *answer, size_t answer_length);
+
+/* Converts a container that was written when a group minimum could be 1: each label
+ * with a minimum of 1 gets a minimum of 2, and every other byte stays. Writes two
+ * numbers to the start of answer and returns the first:
+ *
+ *   0, count             converted: converted begins with the new container, as long as
+ *                        the old one, and offsets with so many numbers, the byte offset
+ *                        in the container of each label that was changed, in rising
+ *                        order; a container without a minimum of 1 comes back byte for
+ *                        byte, and the count is 0
+ *   1, 0                 converted has fewer elements than the container, or offsets
+ *                        fewer than CILUNOVAY_OFFSETS; this is tested before the
+ *                        container is read
+ *   11 to 20, offset     refused: the checks are those of cilunovay_check, with the same
+ *                        numbers, places and order, but for a minimum under stage A,
+ *                        which is 1 to 1,023 here and not 2 to 1,023
+ *
+ * What was converted is accepted by cilunovay_check. Overlays are not converted: one
+ * with a minimum of 1 is refused with 22 and has to be delivered anew.
+ *
+ * After 1 and after 11 to 20 converted and offsets are as they were. After 0 what lies
+ * past the new container in converted, and past the count in offsets, is as it was. The
+ * rest of answer is as it was in each case. Where answer has fewer than
+ * CILUNOVAY_CONVERT_ANSWER elements, nothing lent changes at all, the answer included,
+ * and 1 is returned.
+ *
+ * The container is only read. What converted and offsets hold before the call plays no
+ * part in the answer, the new container and the offsets.
+ */
+uint32_t cilunovay_convert(const uint8_t *container, size_t container_length,
+                           uint8_t *converted, size_t converted_length,
+                           uint32_t *offsets, size_t offsets_length,
+                           uint64_t *answer, size_t answer_length);
 
 #ifdef __cplusplus
 }

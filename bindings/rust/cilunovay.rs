@@ -14,8 +14,9 @@
 //!
 //! [`Monitor::run`] evaluates a container with a list of draws, which is empty for a
 //! plan without NOISE, and [`Monitor::run_with_overlays`] with labels that were
-//! delivered apart as well; [`check`] does the checks of a container alone. All answer
-//! for every slice of bytes. Rows, columns, steps and byte offsets count from 0.
+//! delivered apart as well; [`check`] does the checks of a container alone, and
+//! [`convert`] raises the group minima of 1 that an earlier container may have. All
+//! answer for every slice of bytes. Rows, columns, steps and byte offsets count from 0.
 
 // A program may use a part of this file.
 #![allow(dead_code)]
@@ -41,6 +42,7 @@ const WORK: usize = 8_192;
 const MARKS: usize = 1_024;
 const OUTPUT: usize = 2_048;
 const TRACE: usize = 256;
+const OFFSETS: usize = 8_192;
 
 // A slice is lent as a pointer and a length; include/cilunovay.h has the contracts.
 #[link(name = "cilunovay", kind = "static")]
@@ -77,6 +79,17 @@ unsafe extern "C" {
     fn cilunovay_check(
         container: *const u8,
         container_length: usize,
+        answer: *mut u64,
+        answer_length: usize,
+    ) -> u32;
+
+    fn cilunovay_convert(
+        container: *const u8,
+        container_length: usize,
+        converted: *mut u8,
+        converted_length: usize,
+        offsets: *mut u32,
+        offsets_length: usize,
         answer: *mut u64,
         answer_length: usize,
     ) -> u32;
@@ -521,5 +534,57 @@ pub fn check(container: &[u8]) -> Result<(), InputRefusal> {
             fault: InputFault::from_number(number),
             offset: answer[1] as usize,
         }),
+    }
+}
+
+/// A converted container, and where it differs from the old one.
+#[derive(Clone, PartialEq, Eq, Debug)]
+pub struct Conversion {
+    /// The new container, as long as the old one.
+    pub container: Vec<u8>,
+    /// The byte offset of each label that was changed, in rising order; none where the
+    /// new container is the old one.
+    pub offsets: Vec<usize>,
+}
+
+/// Converts a container that was written when a group minimum could be 1: each label
+/// with a minimum of 1 gets a minimum of 2, and every other byte stays. The new
+/// container is accepted by [`check`].
+///
+/// ```text
+/// let Conversion { container, offsets } = convert(&stored)?;
+/// for &offset in &offsets {
+///     assert_eq!((stored[offset], container[offset]), (1, 2));
+/// }
+/// ```
+///
+/// Only a container that was accepted before is converted: the refusals, 11 to 20, are
+/// those of [`check`], but for a minimum of 1, which is none. Each lent slice has room
+/// enough, so refusal 1 does not occur. Overlays are not converted.
+pub fn convert(container: &[u8]) -> Result<Conversion, InputRefusal> {
+    let mut converted = vec![0u8; container.len()];
+    let mut offsets = vec![0u32; OFFSETS];
+    let mut answer = [0u64; 2];
+    // Each pointer comes from a slice of the length given with it, and none that is
+    // written to overlaps another.
+    let number = unsafe {
+        cilunovay_convert(
+            container.as_ptr(),
+            container.len(),
+            converted.as_mut_ptr(),
+            converted.len(),
+            offsets.as_mut_ptr(),
+            offsets.len(),
+            answer.as_mut_ptr(),
+            answer.len(),
+        )
+    };
+    let second = answer[1] as usize;
+    match number {
+        0 => {
+            let offsets = offsets.iter().take(second).map(|&offset| offset as usize).collect();
+            Ok(Conversion { container: converted, offsets })
+        }
+        _ => Err(InputRefusal { fault: InputFault::from_number(number), offset: second }),
     }
 }

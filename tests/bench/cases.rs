@@ -11,9 +11,9 @@ pub struct Case {
     pub make: fn(usize) -> (Draft, String),
 }
 
-/// T (cut 3) over A (sum and count, 1): cut and sum clear it.
-const CUT_THEN_SUM: u32 = 0x6403_0C01;
-const SUM: u32 = 0x2003_0001;
+/// T (cut 3) over A (sum and count, 2): cut and sum clear it.
+const CUT_THEN_SUM: u32 = 0x6403_0C02;
+const SUM: u32 = 0x2003_0002;
 
 /// Rows of the largest table.
 pub const SIZES: [usize; 3] = [16, 64, 256];
@@ -78,7 +78,13 @@ pub static CASES: [Case; 10] = [
         make: |rows| {
             let steps = [scan(0), step(7, 2, 1, 2, 0, 0)];
             let sql = "SELECT c1, sum(c2) FROM t0 GROUP BY c1";
-            (draft(vec![table(8, rows, 0, SUM)], &steps), sql.into())
+            // Up to 100 keys, each of two rows at least.
+            let keys = 100.min(rows as i64 / 2);
+            let mut table = table(8, rows, 0, SUM);
+            for (row, cells) in table.cells.chunks_mut(8).enumerate() {
+                cells[1].0 = row as i64 * keys / rows as i64;
+            }
+            (draft(vec![table], &steps), sql.into())
         },
     },
     Case {
@@ -93,20 +99,20 @@ pub static CASES: [Case; 10] = [
 ];
 
 /// GROUP by many keys, by few and by one, over rows that come from all different
-/// sheets, in rising order and in none, from one, and each sheet twice. The label
-/// asks for just the sheets that each group has.
+/// sheets, in rising order and in none, from two for each key, and each sheet twice.
+/// The label asks for just the sheets that each group has.
 pub static SHEETS: [Case; 12] = [
     Case { name: "64 keys, rising", make: |rows| on_sheets(rows, 64, Order::Rising) },
     Case { name: "64 keys, shuffled", make: |rows| on_sheets(rows, 64, Order::Shuffled) },
-    Case { name: "64 keys, the same", make: |rows| on_sheets(rows, 64, Order::Same) },
+    Case { name: "64 keys, two", make: |rows| on_sheets(rows, 64, Order::Two) },
     Case { name: "64 keys, twice", make: |rows| on_sheets(rows, 64, Order::Twice) },
     Case { name: "8 keys, rising", make: |rows| on_sheets(rows, 8, Order::Rising) },
     Case { name: "8 keys, shuffled", make: |rows| on_sheets(rows, 8, Order::Shuffled) },
-    Case { name: "8 keys, the same", make: |rows| on_sheets(rows, 8, Order::Same) },
+    Case { name: "8 keys, two", make: |rows| on_sheets(rows, 8, Order::Two) },
     Case { name: "8 keys, twice", make: |rows| on_sheets(rows, 8, Order::Twice) },
     Case { name: "1 key, rising", make: |rows| on_sheets(rows, 1, Order::Rising) },
     Case { name: "1 key, shuffled", make: |rows| on_sheets(rows, 1, Order::Shuffled) },
-    Case { name: "1 key, the same", make: |rows| on_sheets(rows, 1, Order::Same) },
+    Case { name: "1 key, two", make: |rows| on_sheets(rows, 1, Order::Two) },
     Case { name: "1 key, twice", make: |rows| on_sheets(rows, 1, Order::Twice) },
 ];
 
@@ -145,9 +151,12 @@ fn draft(tables: Vec<RawTable>, steps: &[RawStep]) -> Draft {
 }
 
 /// Most kinds of steps. The largest fills the container: 256, 256 and 168 rows of 8
-/// columns.
+/// columns. The smallest has four keys in place of eight, so that each of its groups
+/// has two sheets.
 fn mixed(rows: usize) -> (Draft, String) {
-    let third = table(8, rows * 168 / 256, 0, 0);
+    let mut third = table(8, rows * 168 / 256, 0, 0);
+    let keys = 8.min(rows as i64 / 4);
+    third.cells.iter_mut().skip(3).step_by(8).for_each(|cell| cell.0 %= keys);
     let tables = vec![table(8, rows, 0, CUT_THEN_SUM), table(8, rows, 1, CUT_THEN_SUM), third];
     let steps = [
         scan(0),
@@ -217,7 +226,7 @@ fn table(columns: usize, rows: usize, number: i64, label: u32) -> RawTable {
 enum Order {
     Rising,
     Shuffled,
-    Same,
+    Two,
     Twice,
 }
 
@@ -233,9 +242,9 @@ fn on_sheets(rows: usize, keys: usize, order: Order) -> (Draft, String) {
             let mut rng = Rng::new(rows as u64);
             (1..rows).rev().for_each(|place| numbers.swap(place, rng.below(place + 1)));
         }
-        Order::Same => {
-            numbers.fill(7);
-            different = 1;
+        Order::Two => {
+            numbers = (0..rows).map(|row| 7 + row / keys % 2).collect();
+            different = 2;
         }
         // The second half of the rows has the sheets of the first, key by key.
         Order::Twice => {

@@ -1,11 +1,13 @@
-// The header in C++: both functions on a container without bytes, slices that are too short, the number of finished steps over slices that were
-// used before, what work memory holds afterwards, draws of several lengths, overlays that are refused and overlays in every order, and the text of a
-// release in slices of several lengths. Takes place in the folder of the trials' containers, whose names stand in ../args; those of the trials with
-// draws are in ../../noise_trials, those of the trials with overlays in ../../overlay_trials.
+// The header in C++: the functions on a container without bytes, slices that are too short, the number of finished steps over slices that were
+// used before, what work memory holds afterwards, draws of several lengths, overlays that are refused and overlays in every order, the text of a
+// release in slices of several lengths, and conversions into slices of several lengths. Takes place in the folder of the trials' containers, whose
+// names stand in ../args; those of the trials with draws are in ../../noise_trials, those of the trials with overlays in ../../overlay_trials, and
+// those of the conversion in ../../convert.
 #include <cilunovay.h>
 
 #include <algorithm>
 #include <array>
+#include <cinttypes>
 #include <cstdint>
 #include <cstdio>
 #include <fstream>
@@ -328,6 +330,123 @@ static bool enough_draws(std::size_t count)
            && cilunovay_finished(container.data(), answer) == 2;
 }
 
+// What a conversion is lent for writing, with more elements than it needs.
+static std::vector<std::uint8_t> converted;
+static std::vector<std::uint32_t> offsets;
+static std::vector<std::uint64_t> conversion_answer;
+
+// Converts the container with so many elements for the new one, for the offsets and for the answer. It is only read.
+static std::uint32_t convert(std::size_t room, std::size_t offsets_room, std::size_t answer_room)
+{
+    const std::vector<std::uint8_t> before = container;
+
+    converted.assign(CILUNOVAY_CONTAINER + 9, PATTERN);
+    offsets.assign(CILUNOVAY_OFFSETS + 1, USED);
+    conversion_answer.assign(CILUNOVAY_CONVERT_ANSWER + 1, USED);
+    const std::uint32_t number = cilunovay_convert(container.data(), length, converted.data(), room, offsets.data(), offsets_room,
+                                                   conversion_answer.data(), answer_room);
+    return container == before ? number : CILUNOVAY_NO_ROOM;
+}
+
+// A slice begins with this, and holds behind it what it held before.
+template <class Element> static bool begins(const std::vector<Element> &slice, const std::vector<Element> &first, Element before)
+{
+    return std::equal(first.begin(), first.end(), slice.begin())
+           && std::all_of(slice.begin() + first.size(), slice.end(), [before](Element one) { return one == before; });
+}
+
+// What a conversion leaves: these numbers at the start of the answer, this new container and these offsets, and nothing else changed.
+static bool leaves(const std::vector<std::uint64_t> &numbers, const std::vector<std::uint8_t> &bytes, const std::vector<std::uint32_t> &places)
+{
+    return begins<std::uint64_t>(conversion_answer, numbers, USED) && begins<std::uint8_t>(converted, bytes, PATTERN)
+           && begins<std::uint32_t>(offsets, places, USED);
+}
+
+// A trial of the conversion: its name and its answer, a refusal or offsets.
+struct Trial {
+    std::string name;
+    std::uint32_t number;
+    std::uint64_t place;
+    std::vector<std::uint32_t> places;
+};
+
+// The answers of ../../convert: a name, then X with the number and the place, or an offset in each line.
+static std::vector<Trial> conversion_trials()
+{
+    std::ifstream lines("../../convert/answers");
+    std::vector<Trial> trials;
+    std::string line;
+
+    while (std::getline(lines, line))
+        if (line[0] >= 'a' && line[0] <= 'z')
+            trials.push_back({line, CILUNOVAY_RELEASED, 0, {}});
+        else if (line[0] == 'X')
+            std::sscanf(line.c_str(), "X %" SCNu32 " %" SCNu64, &trials.back().number, &trials.back().place);
+        else
+            trials.back().places.push_back(std::uint32_t(std::stoul(line)));
+    return trials;
+}
+
+// A slice that is too short: 1, before 11 too, and nothing else changes; an answer that is too short: nothing changes at all.
+static bool too_short_to_convert()
+{
+    const std::size_t none = 0, enough = CILUNOVAY_OFFSETS, numbers = CILUNOVAY_CONVERT_ANSWER;
+
+    for (std::size_t short_answer : {none, numbers - 1})
+        for (std::size_t offsets_room : {none, enough})
+            if (convert(length, offsets_room, short_answer) != CILUNOVAY_TOO_SHORT || !leaves({}, {}, {}))
+                return false;
+    for (std::size_t offsets_room : {none, enough - 1})
+        if (convert(length, offsets_room, numbers) != CILUNOVAY_TOO_SHORT || !leaves({CILUNOVAY_TOO_SHORT, 0}, {}, {}))
+            return false;
+    for (std::size_t room : {none, length / 2, length - 1})
+        if (length > 0 && (convert(room, enough, numbers) != CILUNOVAY_TOO_SHORT || !leaves({CILUNOVAY_TOO_SHORT, 0}, {}, {})))
+            return false;
+    return true;
+}
+
+// What was converted is accepted, and comes back as it is.
+static bool stays(const std::vector<std::uint8_t> &bytes)
+{
+    std::uint64_t checked[CILUNOVAY_CHECK_ANSWER] = {9, 9};
+
+    std::copy(bytes.begin(), bytes.end(), container.begin());
+    return cilunovay_check(container.data(), length, checked, CILUNOVAY_CHECK_ANSWER) == CILUNOVAY_RELEASED
+           && convert(length, CILUNOVAY_OFFSETS, CILUNOVAY_CONVERT_ANSWER) == CILUNOVAY_RELEASED && leaves({CILUNOVAY_RELEASED, 0}, bytes, {});
+}
+
+// A trial with slices that are long enough and longer: after a refusal the new container and the offsets are as they were.
+static bool converts(const Trial &trial)
+{
+    const std::string path = "../../convert/data/" + trial.name;
+    const bool refused = trial.number != CILUNOVAY_RELEASED;
+    std::vector<std::uint8_t> bytes(CILUNOVAY_CONTAINER + 1);
+    std::size_t size = 0;
+
+    if (!read_file(path + ".converted", bytes, size) || !read(path) || size != (refused ? 0 : length))
+        return false;
+    bytes.resize(size);
+    for (std::size_t room : {length, length + 1, std::size_t(CILUNOVAY_CONTAINER + 9)})
+        for (std::size_t offsets_room : {CILUNOVAY_OFFSETS, CILUNOVAY_OFFSETS + 1})
+            for (std::size_t answer_room : {CILUNOVAY_CONVERT_ANSWER, CILUNOVAY_CONVERT_ANSWER + 1})
+                if (convert(room, offsets_room, answer_room) != trial.number
+                    || !leaves({trial.number, refused ? trial.place : trial.places.size()}, bytes, trial.places))
+                    return false;
+    return too_short_to_convert() && (refused || stays(bytes));
+}
+
+static bool conversions()
+{
+    const std::vector<Trial> trials = conversion_trials();
+
+    for (const Trial &trial : trials)
+        if (!converts(trial)) {
+            std::fprintf(stderr, "wrong: %s\n", trial.name.c_str());
+            return false;
+        }
+    return !trials.empty();
+}
+
 static void put(std::initializer_list<std::uint8_t> bytes)
 {
     std::copy(bytes.begin(), bytes.end(), container.begin() + length);
@@ -361,7 +480,7 @@ int main()
                    && refuses("x22_third_overlay_before_21_of_the_fourth", CILUNOVAY_BAD_OVERLAY_LABEL, 30)
                    && each_trial("../../overlay_trials/data/", OVERLAYS, overlaid) && each_trial("", NOTHING, texts)
                    && each_trial("../../noise_trials/data/", DRAWS, texts) && each_trial("../../overlay_trials/data/", OVERLAYS, texts)
-                   && longest_text()
+                   && longest_text() && conversions()
                ? 0
                : 1;
 }

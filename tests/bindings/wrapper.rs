@@ -1,15 +1,17 @@
-//! Tests of the Rust wrapper on the containers of a folder, and on those with overlays of another.
+//! Tests of the Rust wrapper on the containers of a folder, on those with overlays of another, and on those to be
+//! converted of a third.
 //!
 //! ```text
 //! rustc --edition 2021 --test -L native=target/staticlib -o wrapper tests/bindings/wrapper.rs
-//! CONTAINERS=crates/trials/data OVERLAID=crates/overlay_trials/data wrapper
+//! CONTAINERS=crates/trials/data OVERLAID=crates/overlay_trials/data CONVERSIONS=crates/convert/data wrapper
 //! ```
 
 #[path = "../../bindings/rust/cilunovay.rs"]
 mod cilunovay;
 
-use cilunovay::{check, InputFault, InputRefusal, Kind, Line, Monitor, Refusal, Release, StateFault, StateRefusal};
-use cilunovay::{LONGEST_OVERLAY, LONGEST_TEXT, MOST_OVERLAYS};
+use cilunovay::{check, convert, Conversion, InputFault, InputRefusal, Kind, Line};
+use cilunovay::{Monitor, Refusal, Release, StateFault, StateRefusal};
+use cilunovay::{LONGEST_CONTAINER, LONGEST_OVERLAY, LONGEST_TEXT, MOST_OVERLAYS};
 
 fn containers() -> Vec<(String, Vec<u8>)> {
     let folder = std::env::var("CONTAINERS").expect("CONTAINERS names a folder");
@@ -325,4 +327,105 @@ fn the_checks_of_a_container_take_no_overlays() {
     seen.sort();
     seen.dedup();
     assert_eq!(seen, [21, 22, 31, 32, 33, 34, 35, 36, 37]);
+}
+
+/// A file of the trials of the conversion.
+fn to_convert(name: &str) -> Vec<u8> {
+    let folder = std::env::var("CONVERSIONS").expect("CONVERSIONS names a folder");
+    std::fs::read(std::path::Path::new(&folder).join(name)).unwrap()
+}
+
+/// The trials of the conversion: each name, with the container and what it becomes, no bytes where it is refused.
+fn conversions() -> Vec<(String, Vec<u8>, Vec<u8>)> {
+    let folder = std::env::var("CONVERSIONS").expect("CONVERSIONS names a folder");
+    let files = std::fs::read_dir(folder).unwrap().map(|entry| entry.unwrap().file_name().into_string().unwrap());
+    let mut names: Vec<String> = files.filter(|name| !name.contains('.')).collect();
+    names.sort();
+    assert!(!names.is_empty());
+    let both = |name: String| {
+        let becomes = to_convert(&format!("{name}.converted"));
+        (name.clone(), to_convert(&name), becomes)
+    };
+    names.into_iter().map(both).collect()
+}
+
+#[test]
+fn the_printed_case_with_a_minimum_of_1_is_converted() {
+    let stored = to_convert("printed_case_minimum_1");
+    let refusal = InputRefusal { fault: InputFault::Label, offset: 74 };
+    assert_eq!(Monitor::new().run(&stored, &[]), Err(Refusal::Input(refusal)));
+    let conversion = convert(&stored).unwrap();
+    assert_eq!(conversion, Conversion { container: named("printed_case"), offsets: vec![74, 98] });
+    assert_eq!(Monitor::new().run(&conversion.container, &[]).unwrap().values, [7, 8]);
+}
+
+/// The example of `convert`'s documentation.
+#[test]
+fn each_label_changed_has_2_for_1() -> Result<(), InputRefusal> {
+    let stored = to_convert("among_other_labels");
+    let Conversion { container, offsets } = convert(&stored)?;
+    for &offset in &offsets {
+        assert_eq!((stored[offset], container[offset]), (1, 2));
+    }
+    assert_eq!(offsets, [58, 106, 154]);
+    Ok(())
+}
+
+#[test]
+fn every_other_byte_stays() {
+    let (mut converted, mut refused) = (0, Vec::new());
+    for (name, stored, becomes) in conversions() {
+        match convert(&stored) {
+            Ok(Conversion { container, offsets }) => {
+                assert_eq!(container, becomes, "{name}");
+                let differ: Vec<usize> = (0..stored.len()).filter(|&at| stored[at] != container[at]).collect();
+                assert_eq!(offsets, differ, "{name}");
+                assert_eq!(check(&container), Ok(()), "{name}");
+                assert_eq!(convert(&container), Ok(Conversion { container, offsets: Vec::new() }), "{name}");
+                converted += 1;
+            }
+            Err(refusal) => {
+                assert!(becomes.is_empty(), "{name}: {refusal}");
+                refused.push(refusal.fault.number());
+            }
+        }
+    }
+    refused.sort();
+    refused.dedup();
+    assert!(converted > 0);
+    assert_eq!(refused, [11, 12, 13, 14, 15, 16, 17, 18, 19, 20]);
+}
+
+#[test]
+fn what_is_accepted_comes_back() {
+    for (name, container) in containers() {
+        if check(&container).is_ok() {
+            assert_eq!(convert(&container), Ok(Conversion { container, offsets: Vec::new() }), "{name}");
+        }
+    }
+}
+
+#[test]
+fn what_is_refused_for_another_reason_is_not_converted() {
+    let mut refused = 0;
+    for (name, container) in containers() {
+        if let Err(refusal) = check(&container) {
+            if refusal.fault != InputFault::Label {
+                assert_eq!(convert(&container), Err(refusal), "{name}");
+                refused += 1;
+            }
+        }
+    }
+    assert!(refused > 0);
+    let behind = to_convert("x14_after_a_1");
+    assert_eq!(check(&behind), Err(InputRefusal { fault: InputFault::Label, offset: 46 }));
+    assert_eq!(convert(&behind), Err(InputRefusal { fault: InputFault::Value, offset: 50 }));
+}
+
+#[test]
+fn a_container_of_a_wrong_length_is_not_converted() {
+    for length in [0, 1, LONGEST_CONTAINER + 1, 2 * LONGEST_CONTAINER] {
+        let refusal = InputRefusal { fault: InputFault::Container, offset: 0 };
+        assert_eq!(convert(&vec![2; length]), Err(refusal));
+    }
 }

@@ -1,8 +1,10 @@
-//! The product's two functions with slices for the answer that begin with a
+//! The product's three functions with slices for the answer that begin with a
 //! known pattern: long enough, of just the length needed, and too short.
 
+use crate::conversions::Room;
 use crate::lent::Lent;
-use crate::product::{call_check, call_run, CHECK_ANSWER, RUN_ANSWER};
+use crate::product::{call_check, call_convert, call_run};
+use crate::product::{CHECK_ANSWER, CONVERT_ANSWER, RUN_ANSWER};
 use crate::rng::mix;
 
 const MARGIN: usize = 4;
@@ -80,4 +82,25 @@ pub fn short_run(lent: &mut Lent, pattern: u64) -> Result<(), String> {
 
 pub fn short_check(container: &[u8], pattern: u64) -> Result<(), String> {
     short(CHECK_ANSWER, pattern, |answer| call_check(container, answer))
+}
+
+pub fn convert(
+    container: &[u8],
+    room: &mut Room,
+    pattern: u64,
+) -> Result<[u32; CONVERT_ANSWER], String> {
+    let read = container.to_vec();
+    let (converted, offsets) = room.slices();
+    let call = |answer: &mut [u64]| call_convert(&read, converted, offsets, answer);
+    let numbers = whole(CONVERT_ANSWER, pattern, call)?;
+    if read != container {
+        return Err("a conversion changed its container".into());
+    }
+    Ok(numbers.try_into().unwrap())
+}
+
+/// `room` is to be unchanged afterwards.
+pub fn short_convert(container: &[u8], room: &mut Room, pattern: u64) -> Result<(), String> {
+    let (converted, offsets) = room.slices();
+    short(CONVERT_ANSWER, pattern, |answer| call_convert(container, converted, offsets, answer))
 }

@@ -1,13 +1,15 @@
 //! The classes that every run has to meet, and how often it did.
 
+use crate::conversion_classes;
 use crate::damage::DAMAGES;
 use crate::overlay_classes;
 use crate::overlay_rules::RULES;
 use crate::wrong_overlays::WRONG_OVERLAYS;
 use std::collections::HashMap;
 
-/// Those of `overlay_classes`, the wrong rules of `overlay_rules`, the near-valid
-/// containers of `damage` and the overlays of `wrong_overlays` are classes as well.
+/// Those of `overlay_classes` and of `conversion_classes`, the wrong rules of
+/// `overlay_rules`, the near-valid containers of `damage` and the overlays of
+/// `wrong_overlays` are classes as well.
 static CLASSES: &[&str] = &[
     "answer: released",
     "answer: 11",
@@ -28,6 +30,8 @@ static CLASSES: &[&str] = &[
     "answer: 36",
     "answer: 37",
     "answer: 51",
+    "15 minimum 1, until converted",
+    "15 minimum 1 on a sheet number",
     "check: accepted",
     "check: refused",
     "no locked cell",
@@ -105,7 +109,7 @@ static CLASSES: &[&str] = &[
     "accepted: digits 1",
     "accepted: digits 6",
     "accepted: A that allows nothing",
-    "accepted: minimum 1",
+    "accepted: minimum 2",
     "accepted: minimum 1023",
     "accepted: N that allows noise",
     "accepted: N that allows nothing",
@@ -347,6 +351,12 @@ static CLASSES: &[&str] = &[
     "GROUP below A",
     "GROUP of just the minimum",
     "GROUP one short of the minimum",
+    "GROUP, minimum 2: one row, not discharged",
+    "GROUP, minimum 2: one sheet in several rows, not discharged",
+    "GROUP, minimum 2: two rows, discharged",
+    "GROUP, minimum 2: two sheets in more rows, discharged",
+    "GROUP, minimum 2: three sheets, discharged",
+    "GROUP, minimum 2: more sheets, discharged",
     "A discharged, N left",
     "GROUP, some cells discharged, some not",
     "GROUP composes unequal labels",
@@ -520,10 +530,12 @@ static CLASSES: &[&str] = &[
 
 fn names() -> impl Iterator<Item = &'static str> {
     let overlays = overlay_classes::CLASSES.iter().copied();
+    let conversions = conversion_classes::CLASSES.iter().copied();
     let rules = RULES.iter().map(|rule| rule.0);
     let damages = DAMAGES.iter().map(|damage| damage.0);
     let wrong = WRONG_OVERLAYS.iter().map(|wrong| wrong.0);
-    CLASSES.iter().copied().chain(overlays).chain(rules).chain(damages).chain(wrong)
+    let all = CLASSES.iter().copied().chain(overlays).chain(conversions);
+    all.chain(rules).chain(damages).chain(wrong)
 }
 
 pub struct Classes {

@@ -282,7 +282,7 @@ pub static DAMAGES: &[Damage] = &[
     ("15 bit 15", 15, |r, d| word(r, d, 0x0000_8000)),
     ("15 bit 14", 15, |r, d| word(r, d, 0x0000_4000)),
     ("15 bit 13", 15, |r, d| word(r, d, 0x0000_2000)),
-    ("15 bit 13 with every stage", 15, |r, d| word(r, d, 0xFF9F_2401)),
+    ("15 bit 13 with every stage", 15, |r, d| word(r, d, 0xFF9F_2402)),
     ("15 band without T", 15, |r, d| word(r, d, 0x0800_0000)),
     ("15 cut without T", 15, |r, d| word(r, d, 0x0400_0400)),
     ("15 sub without T", 15, |r, d| word(r, d, 0x0200_0000)),
@@ -365,8 +365,8 @@ pub static DAMAGES: &[Damage] = &[
     ("20 sheet labelled H alone", 20, |r, d| {
         sheet(r, d, Row::Any, |_, cell| cell.1 = 1 << 31).at_part()
     }),
-    ("20 sheet labelled A, minimum 1", 20, |r, d| {
-        sheet(r, d, Row::Any, |_, cell| cell.1 = 0x2001_0001).at_part()
+    ("20 sheet labelled A, minimum 2", 20, |r, d| {
+        sheet(r, d, Row::Any, |_, cell| cell.1 = 0x2001_0002).at_part()
     }),
     ("20 sheet labelled N that allows noise", 20, |r, d| {
         sheet(r, d, Row::Any, |_, cell| cell.1 = NOISY).at_part()
@@ -384,24 +384,24 @@ pub static DAMAGES: &[Damage] = &[
     ("20 second table", 20, |r, d| {
         let mut d = three_parts(d);
         d.tables[1].sheets = 9 + r.below(247) as u8;
-        at_table(d, 1)
+        at_table(&d, 1)
     }),
     ("20 eighth table", 20, |r, mut d| {
         d.tables.truncate(2);
         d.tables.resize(7, RawTable { sheets: 1, ..RawTable::new(1, vec![(3, 0)]) });
         d.tables.push(RawTable { sheets: 1, ..RawTable::new(1, vec![(r.pick(&[-1, -9]), 0)]) });
-        at_table(d, 7)
+        at_table(&d, 7)
     }),
     ("20 table that no step scans", 20, |r, mut d| {
         d.steps = vec![step(1, 0, 0, 0, 0, 0)];
         d.tables.truncate(1);
         d.tables.push(RawTable { sheets: 1, ..RawTable::new(1, vec![(r.between(-9, -1), 0)]) });
-        at_table(d, 1)
+        at_table(&d, 1)
     }),
     ("20 first of two tables", 20, |r, d| {
         let mut d = three_parts(no_column(r, d));
         d.tables[1].sheets = 255;
-        at_table(d, 0)
+        at_table(&d, 0)
     }),
     ("20 before 13 in a later table", 20, |r, d| {
         let mut parts = three_parts(no_column(r, d)).parts();
@@ -411,12 +411,12 @@ pub static DAMAGES: &[Damage] = &[
     ("20 before 14 in a later table", 20, |r, d| {
         let mut d = three_parts(no_column(r, d));
         d.tables[1] = RawTable::new(1, vec![(outside(r), 0)]);
-        at_table(d, 0)
+        at_table(&d, 0)
     }),
     ("20 before 15 in a later table", 20, |r, d| {
         let mut d = three_parts(no_column(r, d));
         d.tables[1] = RawTable::new(1, vec![(0, 1)]);
-        at_table(d, 0)
+        at_table(&d, 0)
     }),
     ("20 before 16", 20, |r, d| before_steps(r, d, &[])),
     ("20 before 17", 20, |r, d| before_steps(r, d, &[RawStep::default()])),

@@ -1,16 +1,22 @@
-//! What a run is given: a container, valid, near-valid or damaged, with draws and
-//! overlays.
+//! What a run is given: a container, valid, valid before #107, near-valid or damaged,
+//! with draws and overlays.
 
 use crate::damage::DAMAGES;
 use crate::draft::{assemble, overlay_parts, Draft, RawTable};
 use crate::generate;
 use crate::lent::Input;
+use crate::old_rule;
 use crate::overlays::{one_on_top, zeros};
 use crate::rng::Rng;
 use crate::wrong_overlays::{prepared, WRONG_OVERLAYS};
+use crate::wrong_sheets::{sheet, Row};
 
 /// The number and the offset that something was made for, and its class.
 pub type Expected = (&'static str, u32, usize);
+
+/// What a conversion answers: the offsets of the labels changed, or the number and
+/// the offset of its refusal.
+pub type Conversion = Result<Vec<usize>, (u32, usize)>;
 
 pub struct Given {
     pub container: Vec<u8>,
@@ -21,6 +27,8 @@ pub struct Given {
     pub wrong: bool,
     /// Two slices for overlays, and what is told when they are exchanged.
     pub exchanged: Option<(usize, usize, Expected)>,
+    /// What the conversion of the container is to answer, where that is known.
+    pub conversion: Option<Conversion>,
 }
 
 impl Given {
@@ -32,6 +40,7 @@ impl Given {
             expected: None,
             wrong: false,
             exchanged: None,
+            conversion: Some(Ok(old_rule::offsets(draft))),
         }
     }
 
@@ -47,10 +56,11 @@ impl Given {
 pub fn make(rng: &mut Rng) -> Given {
     let draft = generate::valid(rng);
     match rng.below(100) {
-        0..=54 => Given::of(&draft),
-        55..=81 => near_valid(rng, draft),
-        82..=92 => with_wrong_overlay(rng, draft),
-        _ => damaged(rng, &draft),
+        0..=48 => Given::of(&draft),
+        49..=55 => stored(rng, draft),
+        56..=83 => near_valid(rng, draft),
+        84..=93 => with_wrong_overlay(rng, draft),
+        _ => damaged(rng, draft),
     }
 }
 
@@ -62,7 +72,51 @@ fn at_most(rng: &mut Rng, bytes: usize, mut draft: Draft) -> Draft {
     draft
 }
 
-/// A container that is refused, whatever the overlays are.
+/// A container that was accepted before #107, mostly, and is refused with 15 until it
+/// is converted.
+fn stored(rng: &mut Rng, mut draft: Draft) -> Given {
+    match rng.below(100) {
+        0..=1 => with_ones(old_rule::fullest(rng)),
+        2..=11 => sheet_with_one(rng, draft),
+        12..=24 => with_ones(old_rule::single_ballots(rng)),
+        25..=34 => stored_with_wrong_overlay(rng, draft),
+        _ => {
+            old_rule::put(rng, &mut draft);
+            with_ones(draft)
+        }
+    }
+}
+
+fn with_ones(draft: Draft) -> Given {
+    let first = old_rule::offsets(&draft)[0];
+    Given { expected: Some(("15 minimum 1, until converted", 15, first)), ..Given::of(&draft) }
+}
+
+/// Refused with 21 or 22 once it is converted.
+fn stored_with_wrong_overlay(rng: &mut Rng, draft: Draft) -> Given {
+    let draft = at_most(rng, 50_000, draft);
+    let mut draft = prepared(rng, draft);
+    let mut given = Given::of(&draft);
+    put_wrong(rng, &draft.tables, &mut given);
+    old_rule::put(rng, &mut draft);
+    Given { overlays: given.overlays, wrong: true, ..with_ones(draft) }
+}
+
+/// A label with minimum 1 on a sheet number, which was refused before as well.
+fn sheet_with_one(rng: &mut Rng, draft: Draft) -> Given {
+    let given = Given::of(&draft);
+    let spoiled = sheet(rng, draft, Row::Any, |_, cell| cell.1 = 0x2001_0001);
+    let ((bytes, field), part) = (spoiled.at_cell(8), spoiled.at_part().1);
+    Given {
+        container: bytes,
+        expected: Some(("15 minimum 1 on a sheet number", 15, field)),
+        conversion: Some(Err((20, part))),
+        ..given
+    }
+}
+
+/// A container that is refused, whatever the overlays are. One that has minima of 1
+/// besides is refused by the old check as it was made for.
 fn near_valid(rng: &mut Rng, draft: Draft) -> Given {
     let mut draft = at_most(rng, 50_000, draft);
     let wrong = rng.chance(40);
@@ -73,9 +127,19 @@ fn near_valid(rng: &mut Rng, draft: Draft) -> Given {
     if wrong {
         put_wrong(rng, &draft.tables, &mut given);
     }
+    let ones = rng.chance(25);
+    if ones {
+        old_rule::put(rng, &mut draft);
+    }
     let (class, number, make) = DAMAGES[rng.below(DAMAGES.len())];
     let (bytes, offset) = make(rng, draft);
-    Given { container: bytes, expected: Some((class, number, offset)), exchanged: None, ..given }
+    Given {
+        container: bytes,
+        expected: if ones { None } else { Some((class, number, offset)) },
+        exchanged: None,
+        conversion: Some(Err((number, offset))),
+        ..given
+    }
 }
 
 /// An accepted container, of whose overlays one is wrong.
@@ -122,8 +186,11 @@ fn put_wrong(rng: &mut Rng, tables: &[RawTable], given: &mut Given) {
 }
 
 /// A few bytes of the container or of an overlay changed.
-fn damaged(rng: &mut Rng, draft: &Draft) -> Given {
-    let mut given = Given::of(draft);
+fn damaged(rng: &mut Rng, mut draft: Draft) -> Given {
+    if rng.chance(25) {
+        old_rule::put(rng, &mut draft);
+    }
+    let mut given = Given { conversion: None, ..Given::of(&draft) };
     let lent: Vec<usize> = (0..4).filter(|&slice| !given.overlays[slice].is_empty()).collect();
     match rng.below(10) {
         0 => given.overlays[rng.below(4)] = (0..rng.below(80)).map(|_| rng.next() as u8).collect(),

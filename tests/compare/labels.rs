@@ -39,10 +39,10 @@ pub fn label(rng: &mut Rng, rows: usize) -> u32 {
             word |= (rng.chance(often) as u32) << place;
         }
         word |= match rng.below(10) {
-            0..=5 => rng.below(3) as u32 + 1,
-            6 | 7 => (rows as u32).clamp(1, 256),
-            8 => rng.pick(&[1, 255, 256, 257, 1022, 1023]),
-            _ => rng.below(1023) as u32 + 1,
+            0..=5 => rng.pick(&[2, 2, 3]),
+            6 | 7 => (rows as u32).clamp(2, 256),
+            8 => rng.pick(&[2, 255, 256, 257, 513, 769, 1022, 1023]),
+            _ => rng.below(1022) as u32 + 2,
         };
     }
     if stages & N != 0 {

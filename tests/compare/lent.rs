@@ -12,7 +12,7 @@ pub const MARKS: usize = 1_024;
 pub const OUTPUT: usize = 2_048;
 pub const NAMES: [&str; 6] =
     ["work values", "work labels", "work marks", "output", "trace", "text"];
-const MARGIN: usize = 16;
+pub const MARGIN: usize = 16;
 
 /// What a run is given to read.
 #[derive(Clone, Copy)]
@@ -200,12 +200,16 @@ fn before_margin<T>(lent: &[T]) -> &[T] {
     &lent[..lent.len() - MARGIN]
 }
 
-fn refill<T>(vector: &mut Vec<T>, contents: impl Iterator<Item = T>) {
+pub fn refill<T>(vector: &mut Vec<T>, contents: impl Iterator<Item = T>) {
     vector.clear();
     vector.extend(contents);
 }
 
-fn first<T: PartialEq + Copy + Into<i128>>(one: &[T], two: &[T]) -> Option<(usize, i128, i128)> {
+/// The first element in which two slices differ.
+pub fn first<T: PartialEq + Copy + Into<i128>>(
+    one: &[T],
+    two: &[T],
+) -> Option<(usize, i128, i128)> {
     if one == two {
         return None;
     }

@@ -21,6 +21,12 @@
 //! table has sheet numbers, none is scanned twice and none is joined, the answer is
 //! that of the rule that counts rows.
 //!
+//! Each container is converted as well, and what is lent for that is compared in the
+//! same way: labels change where they were made to, from 1 to 2, or the refusal is that
+//! of the old check; the input checks refuse what is changed, and accept what is not and
+//! what came out; a run of the new container is past the input checks, and releases
+//! nothing but what the old rule released.
+//!
 //! Prints how often each class occurred. The exit status is 1 after a
 //! difference, or if some class never occurred (not asked for a single INDEX).
 //!
@@ -34,6 +40,8 @@ mod reference;
 
 mod answers;
 mod classes;
+mod conversion_classes;
+mod conversions;
 mod damage;
 mod draft;
 mod generate;
@@ -42,6 +50,7 @@ mod labels;
 mod lent;
 mod noise;
 mod observe;
+mod old_rule;
 mod overlay_checks;
 mod overlay_classes;
 mod overlay_labels;
@@ -60,6 +69,7 @@ mod wrong_sheets;
 mod wrong_steps;
 
 use classes::Classes;
+use conversions::Rooms;
 use inputs::Given;
 use lent::{long_enough, Input, Lengths, Lent, MARKS, NEEDED};
 use observe::Seen;
@@ -116,6 +126,7 @@ struct Harness {
     ours: Lent,
     theirs: Lent,
     pair: Lent,
+    rooms: Rooms,
 }
 
 impl Harness {
@@ -166,17 +177,17 @@ impl Harness {
         if let Some(what) = self.ours.breach(&self.before, answer, finished) {
             return Err(what);
         }
-        match (plain, prepared) {
+        match (&plain, &prepared) {
             (Ok(plain), Ok(container)) => {
                 if answer[0] == 0 {
                     self.text(answer, room)?;
                 }
-                self.accepted(rng, input, &plain, &container, answer, finished)?;
+                self.accepted(rng, input, plain, container, answer, finished)?;
             }
             (Ok(plain), Err(refusal)) if refusal.fault.number() == answer[0] => {
-                overlay_classes::refused(&plain, &input.overlays, &mut self.classes);
+                overlay_classes::refused(plain, &input.overlays, &mut self.classes);
                 self.unused(rng, input, answer, 0)?;
-                self.zeros_added(rng, input, &plain, answer)?;
+                self.zeros_added(rng, input, plain, answer)?;
                 self.exchanged(rng, given)?;
             }
             (Err(refusal), _) if refusal.fault.number() == answer[0] => {
@@ -189,7 +200,7 @@ impl Harness {
         if rng.chance(10) {
             self.short(rng, input, pattern, answer, length)?;
         }
-        Ok(())
+        self.conversion(rng, given, found, plain.as_ref().ok())
     }
 
     /// A run that was evaluated; `container` has the composed labels.

@@ -116,7 +116,7 @@ fn accepted(bytes: &[u8], container: &Container, classes: &mut Classes) {
             if let Some(a) = cell.label.aggregate {
                 let none = !a.avg && !a.max && !a.min && !a.sum && !a.count;
                 classes.hit_if(none, "accepted: A that allows nothing");
-                classes.hit_if(a.minimum == 1, "accepted: minimum 1");
+                classes.hit_if(a.minimum == 2, "accepted: minimum 2");
                 classes.hit_if(a.minimum == 1023, "accepted: minimum 1023");
             }
             classes.hit_if(cell.label.noise == Some(true), "accepted: N that allows noise");
@@ -638,6 +638,16 @@ fn group_labels(
         if stage.allows(aggregate) {
             classes.hit_if(size == stage.minimum as usize, "GROUP of just the minimum");
             classes.hit_if(size + 1 == stage.minimum as usize, "GROUP one short of the minimum");
+        }
+        if stage.allows(aggregate) && stage.minimum == 2 {
+            classes.hit(match (size, rows.len()) {
+                (1, 1) => "GROUP, minimum 2: one row, not discharged",
+                (1, _) => "GROUP, minimum 2: one sheet in several rows, not discharged",
+                (2, 2) => "GROUP, minimum 2: two rows, discharged",
+                (2, _) => "GROUP, minimum 2: two sheets in more rows, discharged",
+                (3, _) => "GROUP, minimum 2: three sheets, discharged",
+                _ => "GROUP, minimum 2: more sheets, discharged",
+            });
         }
         if stage.allows(aggregate) && enough {
             discharged = true;

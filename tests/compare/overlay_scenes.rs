@@ -58,13 +58,21 @@ fn put(table: &mut RawTable, column: usize, word: u32) {
     table.cells.iter_mut().skip(column).step_by(columns).for_each(|cell| cell.1 = word);
 }
 
+/// Mostly one key for all rows, so that they are one group.
+fn one_key(rng: &mut Rng, table: &mut RawTable) {
+    if rng.chance(80) {
+        let columns = table.columns;
+        table.cells.iter_mut().skip(KEY).step_by(columns).for_each(|cell| cell.0 = 3);
+    }
+}
+
 /// Minima around the sheets of a group, from the container and from overlays.
 fn minima(rng: &mut Rng) -> Draft {
     let mut tables = vec![ballots(rng)];
     let sheets = sheets_of_key_0(&tables) as i64;
     let aggregate = rng.below(5) as u8;
-    let word = |minimum: i64| A | 1 << (16 + aggregate) | minimum.clamp(1, 1023) as u32;
-    put(&mut tables[0], VALUE, rng.pick(&[0, word(1), word(sheets), word(sheets + 1)]));
+    let word = |minimum: i64| A | 1 << (16 + aggregate) | minimum.clamp(2, 1023) as u32;
+    put(&mut tables[0], VALUE, rng.pick(&[0, word(2), word(sheets), word(sheets + 1)]));
     let mut overlays = Vec::new();
     for _ in 0..1 + rng.below(4) {
         let asked = if rng.chance(5) { 1023 } else { sheets + rng.pick(&[-1, 0, 0, 0, 1]) };
@@ -88,9 +96,9 @@ fn some_bits(rng: &mut Rng, bits: std::ops::RangeInclusive<u32>, often: usize) -
 
 /// Aggregates that the container and its overlays allow, and one that is taken.
 fn aggregates(rng: &mut Rng) -> Draft {
-    let rows = 1 + rng.below(5);
+    let rows = 2 + rng.below(4);
     let mut tables = vec![clear(rng, 2, rows)];
-    let word = |rng: &mut Rng| A | some_bits(rng, 16..=20, 75) | 1 + rng.below(rows) as u32;
+    let word = |rng: &mut Rng| A | some_bits(rng, 16..=20, 75) | 2 + rng.below(rows - 1) as u32;
     let own = word(rng);
     put(&mut tables[0], VALUE, if rng.chance(60) { own } else { 0 });
     let overlays = 1 + rng.below(3);
@@ -133,7 +141,7 @@ fn noises(rng: &mut Rng) -> Draft {
     put(&mut tables[0], VALUE, rng.pick(&[0, NOISY, NOISY, N]));
     let count = 1 + rng.below(3);
     let mut labels = || {
-        let one = rng.pick(&[NOISY, NOISY, NOISY, N, 0x2002_0001, H]);
+        let one = rng.pick(&[NOISY, NOISY, NOISY, N, 0x2002_0002, H]);
         in_column(&tables, VALUE, || one)
     };
     let overlays = (0..count).map(|_| labels()).collect();
@@ -179,17 +187,18 @@ fn labels_that_are_read(rng: &mut Rng) -> Draft {
 /// T over A over N, or some of them, divided among overlays and perhaps the
 /// container, taken off stage by stage.
 fn chains(rng: &mut Rng) -> Draft {
-    let rows = 1 + rng.below(5);
+    let rows = 2 + rng.below(4);
     let (code, aggregate) = (rng.below(4) as u8, rng.below(5) as u8);
     let digits = rng.between(1, 5);
     let most = rows + rng.chance(15) as usize;
-    let minimum = 1 + rng.below(most) as u32;
+    let minimum = rng.between(2, most as i64) as u32;
     let [transformed, noised] = [0, 1].map(|_| rng.chance(75));
     let mut word = A | 1 << (16 + aggregate) | minimum;
     word |= if transformed { T | 1 << (24 + code) } else { 0 };
     word |= if transformed && code == 2 { (digits as u32) << 10 } else { 0 };
     word |= if noised { NOISY } else { 0 };
     let mut tables = vec![clear(rng, 2, rows)];
+    one_key(rng, &mut tables[0]);
     let whole = in_column(&tables, VALUE, || word);
     let count = 1 + rng.below(4);
     let mut labels = divided(rng, &whole, count);
@@ -212,10 +221,11 @@ fn chains(rng: &mut Rng) -> Draft {
 /// One stage from each overlay, onto clear cells, taken off as far as H allows or
 /// dropped.
 fn a_stage_from_each(rng: &mut Rng) -> Draft {
-    let rows = 1 + rng.below(4);
-    let tables = vec![clear(rng, 2, rows)];
+    let rows = 2 + rng.below(3);
+    let mut tables = vec![clear(rng, 2, rows)];
+    one_key(rng, &mut tables[0]);
     let (code, aggregate) = (rng.below(2) as u8, rng.below(5) as u8);
-    let words = [T | 1 << (24 + code), A | 1 << (16 + aggregate) | 1, NOISY, H];
+    let words = [T | 1 << (24 + code), A | 1 << (16 + aggregate) | 2, NOISY, H];
     let labels = |word: &u32| in_column(&tables, VALUE, || *word);
     let overlays = words[..2 + rng.below(3)].iter().map(labels).collect();
     let steps = if rng.chance(60) {
@@ -268,7 +278,7 @@ fn locked_together(rng: &mut Rng) -> Draft {
     } else {
         let one = rng.below(5) as u8;
         let two = (one + 1 + rng.below(4) as u8) % 5;
-        let words = [one, two].map(|code| A | 1 << (16 + code) | 1);
+        let words = [one, two].map(|code| A | 1 << (16 + code) | 2);
         (words, vec![keep(1), group(1, one, 0), group(1, two, 1)])
     };
     let words = if rng.chance(50) { words } else { [words[1], words[0]] };

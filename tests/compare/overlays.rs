@@ -90,19 +90,19 @@ fn divide(rng: &mut Rng, word: u32, count: usize) -> Vec<u32> {
         }
         let largest = rng.pick(&having);
         for &place in &having {
-            let number = |rng: &mut Rng, most: u32| {
+            let number = |rng: &mut Rng, least: u32, most: u32| {
                 if place == largest {
                     most
                 } else {
-                    1 + rng.below(most as usize) as u32
+                    rng.between(least as i64, most as i64) as u32
                 }
             };
             if stage == A {
-                words[place] |= number(rng, word & 0x3FF);
+                words[place] |= number(rng, 2, word & 0x3FF);
             }
             if stage == T && words[place] & CUT != 0 {
                 let digits = if word & CUT != 0 { word >> 10 & 7 } else { 6 };
-                words[place] |= number(rng, digits) << 10;
+                words[place] |= number(rng, 1, digits) << 10;
             }
         }
     }
@@ -199,6 +199,6 @@ fn above(word: u32) -> u32 {
     match word {
         _ if word & (H | T) != 0 => H,
         _ if word & A != 0 => T | 0x0100_0000,
-        _ => 0x2002_0001,
+        _ => 0x2002_0002,
     }
 }

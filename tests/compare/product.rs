@@ -7,9 +7,11 @@
 
 use crate::lent::{Input, Lent};
 
-/// The elements that the answer of a run needs, and that of the input checks.
+/// The elements that the answer of a run needs, that of the input checks, and that of
+/// a conversion.
 pub const RUN_ANSWER: usize = 4;
 pub const CHECK_ANSWER: usize = 2;
+pub const CONVERT_ANSWER: usize = 2;
 
 #[cfg(not(reference_only))]
 extern "C" {
@@ -45,6 +47,17 @@ extern "C" {
     fn cilunovay_check(
         container: *const u8,
         container_len: usize,
+        answer: *mut u64,
+        answer_len: usize,
+    ) -> u32;
+
+    fn cilunovay_convert(
+        container: *const u8,
+        container_len: usize,
+        converted: *mut u8,
+        converted_len: usize,
+        offsets: *mut u32,
+        offsets_len: usize,
         answer: *mut u64,
         answer_len: usize,
     ) -> u32;
@@ -95,6 +108,28 @@ pub fn call_check(container: &[u8], answer: &mut [u64]) -> u32 {
     }
 }
 
+#[cfg(not(reference_only))]
+pub fn call_convert(
+    container: &[u8],
+    converted: &mut [u8],
+    offsets: &mut [u32],
+    answer: &mut [u64],
+) -> u32 {
+    // Each pointer comes from a slice of the length given with it.
+    unsafe {
+        cilunovay_convert(
+            container.as_ptr(),
+            container.len(),
+            converted.as_mut_ptr(),
+            converted.len(),
+            offsets.as_mut_ptr(),
+            offsets.len(),
+            answer.as_mut_ptr(),
+            answer.len(),
+        )
+    }
+}
+
 #[cfg(reference_only)]
 pub fn call_run(lent: &mut Lent, answer: &mut [u64]) -> u32 {
     if answer.len() < RUN_ANSWER {
@@ -123,5 +158,20 @@ pub fn call_check(container: &[u8], answer: &mut [u64]) -> u32 {
         Err(refusal) => [refusal.fault.number(), refusal.offset as u32],
     };
     answer[..CHECK_ANSWER].copy_from_slice(&numbers.map(u64::from));
+    numbers[0]
+}
+
+#[cfg(reference_only)]
+pub fn call_convert(
+    container: &[u8],
+    converted: &mut [u8],
+    offsets: &mut [u32],
+    answer: &mut [u64],
+) -> u32 {
+    if answer.len() < CONVERT_ANSWER {
+        return 1;
+    }
+    let numbers = crate::reference::convert(container, converted, offsets).numbers();
+    answer[..CONVERT_ANSWER].copy_from_slice(&numbers.map(u64::from));
     numbers[0]
 }

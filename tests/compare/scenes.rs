@@ -377,7 +377,7 @@ fn noise_refused(rng: &mut Rng) -> Scene {
     let mut made = clear(rng, columns, rows);
     let (one, two) = (rng.below(columns), rng.below(columns));
     for row in 0..rows {
-        let above = rng.pick(&[1 << 31, 1 << 30, 0x2002_0001, 0xE000_0002]);
+        let above = rng.pick(&[1 << 31, 1 << 30, 0x2002_0002, 0xE000_0002]);
         made.cells[row * columns + one].1 = match rng.below(10) {
             0 => above,
             1 => above | NOISY,
@@ -460,7 +460,7 @@ fn noise_ends_a_chain(rng: &mut Rng) -> Scene {
     let (transformed, keys) = (rng.chance(70), rng.below(2));
     let (code, aggregate) = (rng.below(4) as u8, rng.below(5) as u8);
     let digits = rng.between(1, 5);
-    let mut word = 0x3000_0000 | rng.pick(&[1, 1, 2, rows as u32]);
+    let mut word = 0x3000_0000 | rng.pick(&[2, 2, 2, rows as u32]);
     word |= (rng.chance(90) as u32) << (16 + aggregate) | (rng.chance(85) as u32) << 23;
     if transformed {
         let allowed = rng.chance(90) as u32;

@@ -47,7 +47,7 @@ pub fn sheets_of_key_0(tables: &[RawTable]) -> usize {
 /// aggregate that it allows, or by chance another.
 fn put_label(rng: &mut Rng, table: &mut RawTable, sheets: usize) -> u8 {
     let aggregate = rng.below(5) as u8;
-    let minimum = (sheets as i64 + rng.pick(&[-1, 0, 0, 1, 1])).clamp(1, 1023);
+    let minimum = (sheets as i64 + rng.pick(&[-1, 0, 0, 1, 1])).clamp(2, 1023);
     let below = rng.pick(&[0, 0, 0, 0x1080_0000]);
     let word = 1 << 29 | 1 << (16 + aggregate) | minimum as u32 | below;
     let some_clear = rng.chance(25);

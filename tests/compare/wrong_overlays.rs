@@ -236,7 +236,7 @@ pub static WRONG_OVERLAYS: &[WrongOverlay] = &[
     ("22 bit 15", 22, |r, t| word(r, t, 0x0000_8000)),
     ("22 bit 14", 22, |r, t| word(r, t, 0x0000_4000)),
     ("22 bit 13", 22, |r, t| word(r, t, 0x0000_2000)),
-    ("22 bit 13 with every stage", 22, |r, t| word(r, t, 0xFF9F_2401)),
+    ("22 bit 13 with every stage", 22, |r, t| word(r, t, 0xFF9F_2402)),
     ("22 operation without T", 22, |r, t| {
         let bit = 1 << (24 + r.below(4));
         word(r, t, bit)
@@ -257,6 +257,9 @@ pub static WRONG_OVERLAYS: &[WrongOverlay] = &[
         word(r, t, minimum)
     }),
     ("22 A, minimum 0", 22, |r, t| word(r, t, 0x2003_0000)),
+    ("22 A, minimum 1", 22, |r, t| word(r, t, 0x2003_0001)),
+    ("22 minimum 1, no aggregate", 22, |r, t| word(r, t, 0x2000_0001)),
+    ("22 minimum 1 with every stage", 22, |r, t| word(r, t, 0xFF9F_0401)),
     ("22 noise without N", 22, |r, t| word(r, t, 0x0080_0000)),
     ("22 all ones", 22, |r, t| word(r, t, 0xFFFF_FFFF)),
     ("22 ill-formed, the first label", 22, |r, t| labelled(r, t, &[(fields(t)[0], 1)])),
@@ -265,13 +268,14 @@ pub static WRONG_OVERLAYS: &[WrongOverlay] = &[
         labelled(r, t, &[(last, 1)])
     }),
     ("22 ill-formed in the sheet column", 22, |r, t| sheet(r, t, Row::Any, 1)),
+    ("22 minimum 1 in the sheet column", 22, |r, t| sheet(r, t, Row::Any, 0x2001_0001)),
     // 22, a label in a sheet column
     ("22 sheet labelled", 22, |r, t| {
         let any = label(r, 3);
         sheet(r, t, Row::Any, any)
     }),
     ("22 sheet labelled H alone", 22, |r, t| sheet(r, t, Row::Any, H)),
-    ("22 sheet labelled A, minimum 1", 22, |r, t| sheet(r, t, Row::Any, 0x2001_0001)),
+    ("22 sheet labelled A, minimum 2", 22, |r, t| sheet(r, t, Row::Any, 0x2001_0002)),
     ("22 sheet labelled N that allows noise", 22, |r, t| sheet(r, t, Row::Any, NOISY)),
     ("22 sheet of the first row", 22, |r, t| sheet(r, t, Row::First, H)),
     ("22 sheet of the last row", 22, |r, t| sheet(r, t, Row::Last, H)),
@@ -280,6 +284,12 @@ pub static WRONG_OVERLAYS: &[WrongOverlay] = &[
         let mut fields = fields(t);
         let later = fields.split_off(1 + r.below(fields.len() - 1));
         let words = [(r.pick(&fields), 1), (r.pick(&later), 0x0020_0000)];
+        labelled(r, t, &words)
+    }),
+    ("22 first of two minima of 1", 22, |r, t| {
+        let mut fields = fields(t);
+        let later = fields.split_off(1 + r.below(fields.len() - 1));
+        let words = [(r.pick(&fields), 0x2002_0001), (r.pick(&later), 0x2001_0001)];
         labelled(r, t, &words)
     }),
     ("22 sheet before an ill-formed label", 22, |r, t| {

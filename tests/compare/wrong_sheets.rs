@@ -15,7 +15,7 @@ pub fn no_column(rng: &mut Rng, mut d: Draft) -> Draft {
 }
 
 /// The container, with the place of this table's part.
-pub fn at_table(d: Draft, table: usize) -> Made {
+pub fn at_table(d: &Draft, table: usize) -> Made {
     let parts = d.parts();
     (assemble(&parts), part_offset(&parts, table + 1))
 }
@@ -25,7 +25,7 @@ pub fn before_steps(rng: &mut Rng, mut d: Draft, steps: &[RawStep]) -> Made {
     d.steps = steps.to_vec();
     let table = rng.below(d.tables.len());
     d.tables[table].sheets = 255;
-    at_table(d, table)
+    at_table(&d, table)
 }
 
 pub enum Row {
@@ -75,14 +75,14 @@ pub fn spoil(rng: &mut Rng, cell: &mut (i64, u32)) {
 }
 
 impl Spoiled {
-    pub fn at_part(self) -> Made {
-        at_table(self.d, self.table)
+    pub fn at_part(&self) -> Made {
+        at_table(&self.d, self.table)
     }
 
     /// At the cell, so many bytes into it.
-    pub fn at_cell(self, field: usize) -> Made {
-        let (cell, (bytes, part)) = (self.cell, self.at_part());
-        (bytes, part + 4 + 12 * cell + field)
+    pub fn at_cell(&self, field: usize) -> Made {
+        let (bytes, part) = self.at_part();
+        (bytes, part + 4 + 12 * self.cell + field)
     }
 
     /// Changes the last cell of the table too, which a further row makes another

@@ -68,9 +68,9 @@ const FIELDS: [Field; 5] = [
         at: 0,
         width: 10,
         needs: 29,
-        labels: &[1, 1023],
-        faults: &[0],
-        without: &[1, 1023],
+        labels: &[2, 1023],
+        faults: &[0, 1],
+        without: &[1, 2, 1023],
     },
 ];
 

@@ -3,7 +3,7 @@
 //! then for each step 17, 18, 19." Document 02's 20 comes "after all 14 and 15 of
 //! the table"; its 21 and 22 are in `overlay`.
 
-use super::label::Label;
+use super::label::{Label, SMALLEST_MINIMUM};
 use super::steps::{Step, STEP_BYTES};
 use super::table::{Cell, Mark, Table};
 use super::value::{in_range, Value};
@@ -11,7 +11,7 @@ use std::ops::Range;
 
 pub const MOST_BYTES: usize = 65_536;
 pub const MOST_ROWS: usize = 256;
-const PAIR_BYTES: usize = 8;
+pub const PAIR_BYTES: usize = 8;
 const CELL_BYTES: usize = 12;
 
 #[derive(Clone, Copy, PartialEq, Eq, Hash, Debug)]
@@ -69,6 +69,11 @@ pub struct Container {
 }
 
 pub fn parse(bytes: &[u8]) -> Result<Container, InputRefusal> {
+    parse_with_minima_from(SMALLEST_MINIMUM, bytes)
+}
+
+/// The same where a group minimum may be as small as this.
+pub fn parse_with_minima_from(smallest: u16, bytes: &[u8]) -> Result<Container, InputRefusal> {
     let parts = match directory(bytes, |count| (2..=9).contains(&count)) {
         Ok(parts) => parts,
         Err(Misfit::Whole) => return refuse(InputFault::Container, 0),
@@ -76,7 +81,7 @@ pub fn parse(bytes: &[u8]) -> Result<Container, InputRefusal> {
     };
     let (mut tables, mut headers) = (Vec::new(), Vec::new());
     for (number, part) in parts[1..].iter().enumerate() {
-        tables.push(table(bytes, part.clone(), number)?);
+        tables.push(table(bytes, part.clone(), number, smallest)?);
         headers.push(bytes[part.start..part.start + 4].try_into().unwrap());
     }
     let plan = plan(bytes, parts[0].clone(), &tables)?;
@@ -139,7 +144,12 @@ pub fn directory(
 /// "Table: byte 0 columns 1 to 8, byte 1 zero, then 16-bit rows 0 to 256, then
 /// the cells row by row, each a signed 64-bit value and a label. Part length is
 /// 4 + 12 × rows × columns." By #103 "13 no longer tests byte 1".
-fn table(bytes: &[u8], part: Range<usize>, number: usize) -> Result<Table, InputRefusal> {
+fn table(
+    bytes: &[u8],
+    part: Range<usize>,
+    number: usize,
+    smallest: u16,
+) -> Result<Table, InputRefusal> {
     let start = part.start;
     if part.len() < 4 {
         return refuse(InputFault::TableHeader, start);
@@ -157,7 +167,7 @@ fn table(bytes: &[u8], part: Range<usize>, number: usize) -> Result<Table, Input
         if !in_range(value) {
             return refuse(InputFault::ValueRange, field);
         }
-        let label = match Label::from_word(u32_at(bytes, field + 8)) {
+        let label = match Label::with_minimum_from(smallest, u32_at(bytes, field + 8)) {
             Some(label) => label,
             None => return refuse(InputFault::IllFormedLabel, field + 8),
         };

@@ -37,12 +37,12 @@ fn examples_4_to_6_discharge() {
     assert_eq!(chain.after_aggregate(Aggregate::Sum, 20), Err(Forbidden));
 }
 
+/// By document 02, #107, "20000001 in example 7 moves to the ill-formed ones".
 #[test]
 fn example_7_well_formed() {
-    for word in [0x00000001, 0x20030000, 0x44000000] {
+    for word in [0x00000001, 0x20030000, 0x44000000, 0x20000001] {
         assert_eq!(Label::from_word(word), None);
     }
-    label(0x20000001);
     label(0x80000000);
 }
 

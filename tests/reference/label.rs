@@ -3,6 +3,9 @@
 
 use super::steps::{Aggregate, Operation};
 
+/// Document 02, #107: "From now on a minimum is 2 to 1,023".
+pub const SMALLEST_MINIMUM: u16 = 2;
+
 /// The stages of one label. `Default` is the clear label.
 #[derive(Clone, Copy, PartialEq, Eq, Debug, Default)]
 pub struct Label {
@@ -51,6 +54,11 @@ pub fn present(word: u32) -> [bool; 4] {
 impl Label {
     /// Reads a word; `None` if it is ill-formed.
     pub fn from_word(word: u32) -> Option<Label> {
+        Label::with_minimum_from(SMALLEST_MINIMUM, word)
+    }
+
+    /// The same where a group minimum may be as small as this.
+    pub fn with_minimum_from(smallest: u16, word: u32) -> Option<Label> {
         // "Bits 22, 21, 15, 14, 13 are zero."
         for place in [22, 21, 15, 14, 13] {
             if bit(word, place) {
@@ -77,8 +85,8 @@ impl Label {
         };
 
         let aggregate = if bit(word, 29) {
-            // "group minimum, 1 to 1,023 if A is present, else 0"
-            if minimum == 0 {
+            // "group minimum", up to 1,023, "if A is present, else 0"
+            if minimum < smallest {
                 return None;
             }
             Some(Grouping {

@@ -1,6 +1,6 @@
 //! The monitor program of document 01, by the reference implementation, the
-//! text of a release, runs with draws and with overlays, and the answers of the
-//! trials.
+//! text of a release, runs with draws and with overlays, the conversion of stored
+//! containers, and the answers of the trials.
 //!
 //!     rustc -O --edition 2021 -o reference tests/reference/main.rs
 //!
@@ -15,6 +15,9 @@
 //!                           line to standard error
 //!     reference texts FILE..  the answers with much and little room for the
 //!                           text, behind a line with the name, and the text
+//!     reference convert     writes the container on standard input anew, and the
+//!                           offsets of the labels changed, one a line, or the
+//!                           refusal's line, to standard error
 //!     reference check FILE..  a line for each: what the input checks answer
 //!     reference labels      a line for each line of standard input, a question
 //!                           to the label library, with its answer
@@ -31,6 +34,7 @@ mod label_trials;
 mod step_trials;
 
 use reference::container::parse;
+use reference::conversion::converted;
 use reference::release::{MARKS_LENGTH, OUTPUT_LENGTH, TEXT_LENGTH, TRACE_LENGTH, WORK_LENGTH};
 use reference::{run, Answer, Overlays};
 use std::fmt::{Display, Write as _};
@@ -80,6 +84,11 @@ fn main() {
                 print_texts(&read_file(name), &mut text);
             }
         }
+        ["convert"] => {
+            let (container, lines) = conversion(&read(io::stdin(), "standard input"));
+            eprint!("{lines}");
+            return write(&container);
+        }
         ["steps"] => text = step_trials::lines(&input()).unwrap_or_else(|number| no_line(number)),
         ["check", ref names @ ..] => {
             for name in names {
@@ -93,7 +102,11 @@ fn main() {
             }
         }
     }
-    io::stdout().write_all(text.as_bytes()).unwrap_or_else(|error| fail("standard output", error));
+    write(text.as_bytes());
+}
+
+fn write(bytes: &[u8]) {
+    io::stdout().write_all(bytes).unwrap_or_else(|error| fail("standard output", error));
 }
 
 fn fail(name: &str, error: impl Display) -> ! {
@@ -165,6 +178,18 @@ fn print_check(name: &str, container: &[u8], text: &mut String) {
         Err(refusal) => {
             writeln!(text, "{name} X {} {}", refusal.fault.number(), refusal.offset).unwrap();
         }
+    }
+}
+
+/// Document 02, #107: "writes the new container to standard output and the offset
+/// of each label changed, one a line, to standard error"; any other container than
+/// those that it converts "gives its `X` line on standard error and no container".
+fn conversion(container: &[u8]) -> (Vec<u8>, String) {
+    match converted(container) {
+        Ok((container, offsets)) => {
+            (container, offsets.iter().map(|offset| format!("{offset}\n")).collect())
+        }
+        Err(refusal) => (Vec::new(), format!("X {} {}\n", refusal.fault.number(), refusal.offset)),
     }
 }
 
@@ -265,8 +290,14 @@ fn print_texts(container: &[u8], text: &mut String) {
 }
 
 #[cfg(test)]
+mod conversion_examples;
+
+#[cfg(test)]
 #[path = "examples.rs"]
 mod examples;
+
+#[cfg(test)]
+mod minimum_examples;
 
 #[cfg(test)]
 mod noise_examples;

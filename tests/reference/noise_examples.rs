@@ -14,7 +14,7 @@ const NO_BIT: u32 = 0x1000_0000;
 const CHAIN: u32 = 0x7182_0002;
 const H: u32 = 0x8000_0000;
 const T: u32 = 0x4000_0000;
-const A: u32 = 0x2000_0001;
+const A: u32 = 0x2000_0002;
 
 pub type Record = [u8; 16];
 
@@ -292,7 +292,7 @@ fn lines_of_steps() {
     for (case, answer) in [
         ("NOISE 0 with none: 1| 1:0", "37 at row 0 column 0"),
         ("NOISE 1 with 5: 2| 1:0 2:0 / 3:0 4:0", "37 at row 1 column 1"),
-        ("NOISE 0 with 5: 1| 1:0 / 3:20000001", "32 at row 1 column 0"),
+        ("NOISE 0 with 5: 1| 1:0 / 3:20000002", "32 at row 1 column 0"),
         ("NOISE 0 with none: 1|", "2|"),
         ("NOISE 0 with 9223372036854775807: 1| 1:0", "2| 1:0 OVER:0"),
         (

@@ -58,9 +58,10 @@ fn refused(overlay: &[u8]) -> Option<(u32, usize)> {
 }
 
 /// Well-formed labels that are not zero, and ill-formed words.
-const LABELS: [u32; 5] = [0x8000_0000, 0x4000_0000, 0x2000_0001, 0x1080_0000, 0xFF9F_07FF];
-const ILL_FORMED: [u32; 9] = [
+const LABELS: [u32; 5] = [0x8000_0000, 0x4000_0000, 0x2000_0002, 0x1080_0000, 0xFF9F_07FF];
+const ILL_FORMED: [u32; 10] = [
     0x0000_0001,
+    0x2000_0001,
     0x2003_0000,
     0x4400_0000,
     0x0080_0000,
@@ -408,6 +409,6 @@ fn printed_refusals() {
     };
     assert_eq!(printed(&changed(1, &[1])), "X 21 0\n");
     assert_eq!(printed(&changed(39, &[1])), "X 21 38\n");
-    assert_eq!(printed(&with_number(34, 0x2000_0001)), "X 22 34\n");
+    assert_eq!(printed(&with_number(34, 0x2000_0002)), "X 22 34\n");
     assert_eq!(printed(&[]), "S 0 1 2 2 0\nS 1 7 1 1 0\nR 11\n");
 }

@@ -97,7 +97,7 @@ fn the_printed_case() {
     assert_eq!(case(0x2002_0002, 0), released);
     assert_eq!(case(0, 0x2002_0002), released);
     assert_eq!(case(0x2002_0002, 0x2002_0002), released);
-    assert_eq!(case(0x2002_0001, 0x2003_0002), released);
+    assert_eq!(case(0x2003_0002, 0x2002_0002), released);
     let refused = "S 0 1 2 2 2\nS 1 7 1 2 1\nX 35 2 0 1\n";
     assert_eq!(case(0x2002_0002, 0x2002_0003), refused);
     assert_eq!(case(0x2002_0003, 0x2002_0002), refused);
@@ -110,9 +110,9 @@ fn the_printed_case() {
 /// sheets as soon as one overlay does.
 #[test]
 fn one_to_four_overlays() {
-    let cells = [(1, SUM + 1), (2, SUM + 1), (3, SUM + 1)];
+    let cells = [(1, SUM + 2), (2, SUM + 2), (3, SUM + 2)];
     let of = |minimum: u32| overlay(&[(1, 0, &[SUM + minimum; 3])]);
-    let (low, enough, high) = (of(1), of(3), of(4));
+    let (low, enough, high) = (of(2), of(3), of(4));
     let choices: [&[u8]; 4] = [&[], &low, &enough, &high];
     for number in 0..256usize {
         let places = [number / 64, number / 16 % 4, number / 4 % 4, number % 4];
@@ -134,7 +134,7 @@ fn a_stage_from_each() {
         let text = |four: [u32; 4]| over_column(&plan, &[5, 6], 0, &labels(four));
         assert_eq!(text([ADD, SUM + 2, NOISY, 0]), chain);
         assert_eq!(text([ADD, SUM + 2, NOISY, H]), held);
-        assert_eq!(text([ADD + SUM + 1, ADD, SUM + 2 + NOISY, NOISY]), chain);
+        assert_eq!(text([ADD + SUM + 2, ADD, SUM + 2 + NOISY, NOISY]), chain);
     }
     assert_eq!(over_column(&plan, &[5, 6], ADD + SUM + 2 + NOISY, &[]), chain);
     assert_eq!(over_column(&plan, &[5, 6], H + ADD + SUM + 2 + NOISY, &[]), held);
@@ -171,20 +171,20 @@ fn an_overlay_locks() {
 #[test]
 fn an_overlay_forbids() {
     let text = |plan: &[Record], own: u32, label: u32| {
-        over_column(&[&[scan(0)], plan].concat(), &[5], own, &[label])
+        over_column(&[&[scan(0)], plan].concat(), &[2, 3], own, &[label])
     };
-    assert_eq!(text(&[sum(0)], SUM + 1, 0), "S 0 1 1 1 1\nS 1 7 1 1 0\nR 5\n");
-    assert_eq!(text(&[sum(0)], SUM + 1, ADD), "S 0 1 1 1 2\nX 32 1 0 0\n");
+    assert_eq!(text(&[sum(0)], SUM + 2, 0), "S 0 1 2 1 2\nS 1 7 1 1 0\nR 5\n");
+    assert_eq!(text(&[sum(0)], SUM + 2, ADD), "S 0 1 2 1 4\nX 32 1 0 0\n");
     assert_eq!(
-        text(&[add(0, 1), sum(1)], SUM + 1, ADD),
-        "S 0 1 1 1 2\nS 1 6 1 2 3\nS 2 7 1 1 0\nR 6\n"
+        text(&[add(0, 1), sum(1)], SUM + 2, ADD),
+        "S 0 1 2 1 4\nS 1 6 2 2 6\nS 2 7 1 1 0\nR 7\n"
     );
     assert_eq!(
         text(&[noise(0), keep(2)], NOISY, 0),
-        "S 0 1 1 1 1\nS 1 8 1 2 1\nS 2 5 1 1 0\nR 5\n"
+        "S 0 1 2 1 2\nS 1 8 2 2 2\nS 2 5 2 1 0\nR 2\nR -8\n"
     );
-    assert_eq!(text(&[noise(0), keep(2)], NOISY, SUM + 1), "S 0 1 1 1 2\nX 32 1 0 0\n");
-    assert_eq!(text(&[noise(0), keep(2)], NOISY, H), "S 0 1 1 1 2\nX 32 1 0 0\n");
+    assert_eq!(text(&[noise(0), keep(2)], NOISY, SUM + 2), "S 0 1 2 1 4\nX 32 1 0 0\n");
+    assert_eq!(text(&[noise(0), keep(2)], NOISY, H), "S 0 1 2 1 4\nX 32 1 0 0\n");
 }
 
 /// "allowed bits are intersected and the larger minimum and the larger digits are
@@ -192,18 +192,18 @@ fn an_overlay_forbids() {
 #[test]
 fn an_overlay_takes_operations_away() {
     let last = |plan: &[Record], own: u32, labels: &[u32]| {
-        let text = over_column(&[&[scan(0)], plan].concat(), &[5_000], own, labels);
+        let text = over_column(&[&[scan(0)], plan].concat(), &[2_000, 5_000], own, labels);
         text.lines().last().unwrap_or_default().to_string()
     };
     let count = group(0, 0, 0);
     let both = SUM | COUNT;
-    assert_eq!(last(&[sum(0)], both + 1, &[SUM + 1]), "R 5000");
-    assert_eq!(last(&[count], both + 1, &[SUM + 1]), "X 35 2 0 0");
-    assert_eq!(last(&[count], both + 1, &[both + 1, COUNT + 1]), "R 1");
+    assert_eq!(last(&[sum(0)], both + 2, &[SUM + 2]), "R 7000");
+    assert_eq!(last(&[count], both + 2, &[SUM + 2]), "X 35 2 0 0");
+    assert_eq!(last(&[count], both + 2, &[both + 2, COUNT + 2]), "R 2");
     for step in [sum(0), count] {
-        assert_eq!(last(&[step], both + 1, &[SUM + 1, COUNT + 1]), "X 35 2 0 0");
-        assert_eq!(last(&[step], SUM + 1, &[COUNT + 1]), "X 35 2 0 0");
-        assert_eq!(last(&[step], 0, &[COUNT + 1, SUM + 1]), "X 35 2 0 0");
+        assert_eq!(last(&[step], both + 2, &[SUM + 2, COUNT + 2]), "X 35 2 0 0");
+        assert_eq!(last(&[step], SUM + 2, &[COUNT + 2]), "X 35 2 0 0");
+        assert_eq!(last(&[step], 0, &[COUNT + 2, SUM + 2]), "X 35 2 0 0");
     }
     // Examples 2 and 3: cut with three digits, and add.
     let cut = |digits: i64| record(6, 0, 2, 0, digits);
@@ -212,8 +212,8 @@ fn an_overlay_takes_operations_away() {
     assert_eq!(last(&[cut(4), keep(2)], 0x4400_0C00, &[0x4400_1000]), "R 0");
     assert_eq!(last(&[cut(3), keep(2)], 0x4500_0C00, &[ADD]), "X 35 3 0 0");
     assert_eq!(last(&[add(0, 1), keep(2)], 0x4500_0C00, &[ADD]), "R 5001");
-    // N without its bit.
-    assert_eq!(last(&[noise(0), keep(2)], NOISY, &[NOISY]), "R 5000");
+    // N without its bit; the second draw is -11.
+    assert_eq!(last(&[noise(0), keep(2)], NOISY, &[NOISY]), "R 4989");
     assert_eq!(last(&[noise(0), keep(2)], NOISY, &[0x1000_0000]), "X 35 3 0 0");
     assert_eq!(last(&[noise(0), keep(2)], 0x1000_0000, &[NOISY]), "X 35 3 0 0");
 }
@@ -223,9 +223,9 @@ fn an_overlay_takes_operations_away() {
 fn an_overlay_loosens_nothing() {
     let text = |own: u32, label: u32| over_column(&[scan(0), sum(0)], &[1, 2], own, &[label]);
     let stays = "S 0 1 2 1 2\nS 1 7 1 1 1\nX 35 2 0 0\n";
-    assert_eq!(text(SUM + 3, 0x201F_0001), stays);
-    assert_eq!(text(COUNT + 1, SUM + 1), stays);
-    assert_eq!(text(0x2000_0001, SUM + 1), stays);
+    assert_eq!(text(SUM + 3, 0x201F_0002), stays);
+    assert_eq!(text(COUNT + 2, SUM + 2), stays);
+    assert_eq!(text(0x2000_0002, SUM + 2), stays);
     assert_eq!(text(SUM + 3, 0), stays);
 }
 
@@ -241,11 +241,10 @@ fn a_minimum_past_a_group() {
     let text = |overlays: &Overlays| printed(&plan, &[(3, 3, &cells)], overlays);
     let released = "S 0 1 6 3 6\nS 1 7 2 2 0\nR 0 30\nR 1 30\n";
     assert_eq!(text(NO_OVERLAYS), released);
-    assert_eq!(text(&four(&[&raised(1)])), released);
     assert_eq!(text(&four(&[&raised(2)])), released);
     let one_left = "S 0 1 6 3 6\nS 1 7 2 2 1\nX 35 2 1 1\n";
     assert_eq!(text(&four(&[&raised(3)])), one_left);
-    assert_eq!(text(&four(&[&raised(2), &raised(3), &raised(1)])), one_left);
+    assert_eq!(text(&four(&[&raised(2), &raised(3), &raised(2)])), one_left);
     let both_left = "S 0 1 6 3 6\nS 1 7 2 2 2\nX 35 2 0 1\n";
     assert_eq!(text(&four(&[&raised(4)])), both_left);
     assert_eq!(text(&four(&[&raised(1_023)])), both_left);
@@ -267,7 +266,7 @@ fn every_cell_has_its_label() {
     for (number, &(columns, rows)) in shapes.iter().enumerate() {
         for cell in 0..columns * rows {
             let mut labels = shapes.map(|(columns, rows)| vec![0; columns * rows]);
-            labels[number][cell] = SUM + 1;
+            labels[number][cell] = SUM + 2;
             let parts: Vec<Labels> =
                 (0..3).map(|table| (shapes[table].0, 0, &labels[table][..])).collect();
             let overlay = overlay(&parts);
@@ -316,7 +315,7 @@ fn no_rows_and_eight_tables() {
 /// the trace tells the stages that the overlays brought.
 #[test]
 fn the_run_without_overlays() {
-    let cells = on_sheets(SUM + 1, &[1, 2, 3]);
+    let cells = on_sheets(SUM + 2, &[1, 2, 3]);
     let plan = [scan(0), add(0, 5), sum(2)];
     let label = ADD + SUM + 3;
     let strict = overlay(&[(2, 2, &[label, 0].repeat(3))]);
@@ -337,7 +336,7 @@ fn what_an_overlay_locks_stays_secret() {
     for value in [5, -7, 140_737_488_355_327] {
         assert_eq!(text(value, ADD, &[SUM + 2]), wanted);
         assert_eq!(text(value, 0, &[SUM + 2, ADD]), wanted);
-        assert_eq!(text(value, ADD + SUM + 1, &[0, SUM + 2]), wanted);
+        assert_eq!(text(value, ADD + SUM + 2, &[0, SUM + 3]), wanted);
         assert_eq!(text(value, ADD + SUM + 2, &[]), wanted);
     }
     assert_ne!(text(5, ADD, &[]), text(-7, ADD, &[]));

@@ -283,7 +283,7 @@ fn causes_of_20() {
     for good in [0, 1, HIGHEST] {
         assert_eq!(answer(1, 1, &[(good, 0), (good, 0)]), None);
     }
-    for bad in [(-1, 0), (LOWEST, 0), (3, 0x8000_0000), (0, 0x2000_0001), (-1, 0x1000_0000)] {
+    for bad in [(-1, 0), (LOWEST, 0), (3, 0x8000_0000), (0, 0x2000_0002), (-1, 0x1000_0000)] {
         for (byte, row, column) in [(1, 0, 0), (1, 2, 0), (2, 0, 1), (2, 1, 1)] {
             let mut cells = [(5, 0); 6];
             cells[2 * row + column] = bad;

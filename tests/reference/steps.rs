@@ -27,6 +27,7 @@ pub enum Operand {
     Column(usize),
 }
 
+/// In the order of their numbers, as the aggregates are.
 #[derive(Clone, Copy, PartialEq, Eq, Debug)]
 pub enum Comparison {
     Equal,
@@ -120,6 +121,36 @@ impl Step {
         }
     }
 
+    /// The bytes that `read` makes this step of.
+    pub fn bytes(&self) -> [u8; STEP_BYTES] {
+        let ([a, b, c, d], constant) = match *self {
+            Step::Scan { table } => ([table as u8, 0, 0, 0], 0),
+            Step::Union => ([0; 4], 0),
+            Step::Join { left_key, right_key } => ([left_key as u8, right_key as u8, 0, 0], 0),
+            Step::Filter { column, comparison, operand } => {
+                operand.fields(column as u8, comparison as u8)
+            }
+            Step::Keep { mask } => ([mask, 0, 0, 0], 0),
+            Step::Apply { column, operation } => {
+                let (b, operand) = match operation {
+                    Operation::Add(operand) => (0, operand),
+                    Operation::Sub(operand) => (1, operand),
+                    Operation::Cut(k) => (2, Operand::Constant(k as i64)),
+                    Operation::Band(k) => (3, Operand::Constant(k)),
+                };
+                operand.fields(column as u8, b)
+            }
+            Step::Group { keys, aggregate, column } => {
+                ([keys, aggregate as u8, column as u8, 0], 0)
+            }
+            Step::Noise { column } => ([column as u8, 0, 0, 0], 0),
+        };
+        let mut bytes = [0; STEP_BYTES];
+        bytes[..5].copy_from_slice(&[self.kind() as u8, a, b, c, d]);
+        bytes[8..].copy_from_slice(&i64::to_le_bytes(constant));
+        bytes
+    }
+
     /// "1. SCAN" to "7. GROUP", and "step kind 8, NOISE".
     pub fn kind(&self) -> u32 {
         match self {
@@ -195,6 +226,14 @@ impl Step {
 }
 
 impl Operand {
+    /// The fields a, b, c and d, and the constant, of a step with this operand.
+    fn fields(self, a: u8, b: u8) -> ([u8; 4], i64) {
+        match self {
+            Operand::Constant(number) => ([a, b, 0, 0], number),
+            Operand::Column(column) => ([a, b, 1, column as u8], 0),
+        }
+    }
+
     fn exists(&self, width: usize) -> bool {
         match *self {
             Operand::Constant(_) => true,

@@ -14,7 +14,8 @@ NAME = "a container is begun by 'container' and one name of a to z, 0 to 9 and _
 TOO_MUCH = "makes more than 16,777,216 bytes and repeated characters to here"
 BLAME = "the output was changed, is not that of CONTAINER without overlays, or is misread by this script"
 TABLE = "a table is begun by 'table' and its number of columns, as in 'table 2', and with sheet numbers in its column 0 'table 2 sheets 0'"
-ANSWERS = "'answers check', 'answers run', 'answers noise' or 'answers overlays' stands before the first container"
+ANSWERS = "'answers check', 'run', 'noise', 'overlays' or 'convert' stands before the first container"
+TABLES_ALONE = "behind 'converted' stand tables, and then the answer"
 SCALE = "is not a number above 0, as 3, 1/2 or 2.5, of at most 9 and 9 digits; -h prints help"
 
 # Rows of a table of one column, in line 6 of ROW_TEXT.
@@ -32,9 +33,11 @@ ROWS = [
     ("5:A(10,sum)", f"in 'A(10,sum)' the group minimum 10 does not stand last; {MINIMUM}"),
     ("5:A(sum)", f"in 'A(sum)' there is no group minimum; {MINIMUM}"),
     ("5:A()", f"in 'A()' there is no group minimum; {MINIMUM}"),
-    ("5:A(sum,0)", "the group minimum '0' is not between 1 and 1,023"),
-    ("5:A(sum,1024)", "the group minimum '1024' is not between 1 and 1,023"),
-    ("5:A(sum,-1)", "the group minimum '-1' is not between 1 and 1,023"),
+    ("5:A(sum,0)", "the group minimum '0' is not between 2 and 1,023"),
+    ("5:A(sum,1)", "the group minimum '1' is not between 2 and 1,023"),
+    ("5:A(1)", "the group minimum '1' is not between 2 and 1,023"),
+    ("5:A(sum,1024)", "the group minimum '1024' is not between 2 and 1,023"),
+    ("5:A(sum,-1)", "the group minimum '-1' is not between 2 and 1,023"),
     ("5:A(,2)", "in 'A(,2)' an operation is missing beside a comma"),
     ("5:T(cut3,)", "in 'T(cut3,)' an operation is missing beside a comma"),
     ("5:T", "'T' is no stage; T has one pair of brackets, and stages are joined by '+'"),
@@ -52,7 +55,12 @@ ROWS = [
     ("5:0x20020002", f"'0x20020002' {LABEL}"),
     (
         "5:20030000",
-        "table 0, row 0, column 0 has the label 20030000: A is present with a group minimum of 0, and this is 1 to 1,023"
+        "table 0, row 0, column 0 has the label 20030000: A is present with a group minimum of 0, and this is 2 to 1,023"
+        f" (15 at byte 46; {MEANT})",
+    ),
+    (
+        "5:20000001",
+        "table 0, row 0, column 0 has the label 20000001: A is present with a group minimum of 1, and this is 2 to 1,023"
         f" (15 at byte 46; {MEANT})",
     ),
     ("0x10", f"'0x10' is not a number; {NUMBER}"),
@@ -136,6 +144,7 @@ STEPS = [
     ("answers check", ANSWERS),
     ("draws", "'draws' stands only in a text that begins with 'answers noise'"),
     ("overlay", "'overlay' stands only in a text that begins with 'answers overlays'"),
+    ("converted", "'converted' stands only in a text that begins with 'answers convert'"),
     ("labels", "'labels' stands only behind 'overlay'"),
 ]
 
@@ -150,7 +159,7 @@ TEXTS = [
     ("container a b\n", 1, f"'container a b': {NAME}"),
     (GOOD_TEXT * 2, 7, "there is another container 'a'"),
     ("answers\n" + GOOD_TEXT, 1, ANSWERS),
-    ("answers maybe\n" + GOOD_TEXT, 1, "'maybe' is no kind of answers; there are check run noise overlays"),
+    ("answers maybe\n" + GOOD_TEXT, 1, "'maybe' is no kind of answers; there are check run noise overlays convert"),
     ("answers noise\n" + GOOD_TEXT, 2, "a has no section 'draws', which may be empty"),
     ("answers noise\n" + GOOD_TEXT + "draws\ndraws\n", 9, "a has its draws already"),
     ("answers noise\n" + GOOD_TEXT + "draws 5\n", 8, "the section 'draws' is begun by a line with this word alone"),
@@ -163,7 +172,7 @@ TEXTS = [
     ("answers noise\n" + GOOD_TEXT + "draws\n" + f"  repeat 1000: {'5 ' * 900}\n", 9, f"the text {TOO_MUCH}"),
     ("container a\nplan\n", 1, "a has no comment, a line with # that says what it shows"),
     ("container a\n# x\n", 1, "a has no plan"),
-    ("container a\n# x\n5\n", 3, "'5' stands before the first section; sections are plan table part raw damage draws overlay labels answer"),
+    ("container a\n# x\n5\n", 3, "'5' stands before the first section; sections are plan table part raw damage draws overlay labels converted answer"),
     ("container a\n# x\nplan\n  SCAN 0\n", 1, "a has no table"),
     ("container a\n# x\ntable 1\n  5\n", 1, "a has no plan; its section comes before the tables"),
     ("container a\n# x\ntable 1\n  5\nplan\n", 5, "the plan is the first part, and there is one"),
@@ -248,6 +257,12 @@ OVERLAYS = [
         f"overlay 0: table 0, row 0, column 0 has the label 00000001: it has a group minimum, 1, and A (bit 29) is absent (22 at byte 22; {MEANT})",
     ),
     (
+        "labels clear\nlabels\n  . 20020001\n",
+        13,
+        "overlay 0: table 1, row 0, column 1 has the label 20020001: A is present with a group minimum of 1, and this is 2 to 1,023"
+        f" (22 at byte 34; {MEANT})",
+    ),
+    (
         "overlay\nlabels clear\nlabels\n  A(sum,2) .\n",
         14,
         f"overlay 1: table 1, row 0, column 0 is a sheet number, and its label here is A(sum,2) and not zero (22 at byte 30; {MEANT})",
@@ -273,6 +288,42 @@ OVERLAYS = [
     ("damage\n  rows 0 5\n", 12, "overlay 0 has no table"),
     ("labels clear\ndamage\n  append zeros 131072\n", 13, "overlay 0 has more than 131,072 bytes"),
     ("draws\n", 11, "'draws' stands only in a text that begins with 'answers noise'"),
+]
+
+# What stands behind a container to be converted, of one table with a minimum of 1 and a clear cell; it begins in line 8.
+CONVERT_TEXT = "answers convert\ncontainer a\n# x\nplan\n  SCAN 0\ntable 2\n  5:20020001 6\n"
+CONVERSIONS = [
+    ("", 2, "a has no section 'answer', which may be empty"),
+    ("answer\n  46\n", 2, "the offsets of its answer are 46, and those of the bytes that change are none"),
+    (
+        "answer\n",
+        2,
+        "what it is converted to is refused with 15 at byte 46: table 0, row 0, column 0 has the label 20020001: A is present with a group minimum"
+        " of 1, and this is 2 to 1,023",
+    ),
+    ("converted\ntable 2\n  5:A(sum,2) 6\n", 2, "a has no section 'answer', which may be empty"),
+    ("converted\ntable 2\n  5:A(sum,2) 6\nanswer\n", 8, "the offsets of its answer are none, and those of the bytes that change are 46"),
+    ("converted\ntable 2\n  5:A(sum,2) 6\nanswer\n  47\n", 8, "the offsets of its answer are 47, and those of the bytes that change are 46"),
+    (
+        "converted\ntable 2\n  5:A(sum,2) 7\nanswer\n  repeat 9: {i*2+30}\n",
+        8,
+        "the offsets of its answer are 30, 32, 34, 36, 38, 40, 42, 44, .., and those of the bytes that change are 46, 50",
+    ),
+    ("converted\ntable 2\n  5:A(sum,3) 6\nanswer\n  46\n", 8, "a byte changes otherwise than from 1 to 2"),
+    ("converted\ntable 2\n  5:A(sum,2) 6\nanswer\n  X 99 0\n", 8, f"'X 99 0' is not a number; {NUMBER}"),
+    ("converted\ntable 2\n  5:A(sum,2) 6\nanswer\n  65536\n", 8, "the offset '65536' is not between 0 and 65,535"),
+    ("converted\ntable 2\n  5:A(sum,2) 6\nanswer\n  X 15 46\n", 2, "a is refused, so there is no section 'converted'"),
+    ("converted\ntable 2\nanswer\n  46\n", 8, "the container has 62 bytes, and what it is converted to 38"),
+    ("converted\ntable 2\n  5:A(sum,2)\n", 10, "a row of 1 cell in a table of 2 columns"),
+    ("converted\n  5:A(sum,2) 6\n", 9, TABLES_ALONE),
+    ("converted\nplan\n", 9, TABLES_ALONE),
+    ("converted\npart\n", 9, TABLES_ALONE),
+    ("converted\ndamage\n", 9, TABLES_ALONE),
+    ("converted\nconverted\n", 9, TABLES_ALONE),
+    ("converted 2\n", 8, "the section 'converted' is begun by a line with this word alone"),
+    ("container b\n# x\nraw\nconverted\n", 11, "'converted' stands behind the plan and the tables"),
+    ("table 1\n  5:20020000\nanswer\n", 9, f"table 1, row 0, column 0 has the label 20020000: A is present with a group minimum of 0, and this is 1 to 1,023 (15 at byte 82; {MEANT})"),
+    ("overlay\n", 8, "'overlay' stands only in a text that begins with 'answers overlays'"),
 ]
 
 # Outputs of the printed case, damaged; `explain CONTAINER` reads them. What the monitor prints for it:

@@ -5,7 +5,7 @@ WORDS = (
     "5: 5:A(sum,2) 5:A(10,sum) T(cut1,cut4) T() H+ 20030000 -1 0 00 01067 0x10 1_000 9999999999999999999999 {i} {i/0} {i*9+1} "
     "repeat repeat 3: 999999: with d=1 STEP kind=9 bytes 00 FF zeros 70000 SCAN UNION JOIN FILTER KEEP APPLY GROUP count sum avg "
     "column = <= cut band add plan table 2 part raw damage answer answers check container append truncate offset X S R 31 35 ; # "
-    "NOISE draws noise N(noise) 37 sheets 20 overlay overlays labels clear . 21 22 "
+    "NOISE draws noise N(noise) 37 sheets 20 overlay overlays labels clear . 21 22 converted convert 20020001 46 "
     "\u0663 \u00a0 ( ) , : +"
 ).split(" ")
 CHARACTERS = "0123456789:;(),+-{}#=SRXHTAN \n\t\r\x00\u00e9\u2028"
@@ -100,9 +100,9 @@ def value(rng):
 
 
 LABELS = (
-    ["", "", "", "H", "T()", "T(add)", "T(cut2)", "T(sub,band)", "N()", "N(noise)", "A(1)", "A(sum,1)", "A(sum,2)", "A(count,2)"]
-    + ["A(count,sum,min,max,avg,3)", "T(cut1)+A(sum,2)", "T(add,band)+A(avg,1)", "A(sum,1)+N()", "H+A(sum,1)", "A(min,max,2)"]
-    + ["N(noise)", "A(count,sum,1)+N(noise)", "T(add,sub)+N(noise)"]
+    ["", "", "", "H", "T()", "T(add)", "T(cut2)", "T(sub,band)", "N()", "N(noise)", "A(2)", "A(sum,2)", "A(sum,3)", "A(count,2)"]
+    + ["A(count,sum,min,max,avg,3)", "T(cut1)+A(sum,2)", "T(add,band)+A(avg,2)", "A(sum,2)+N()", "H+A(sum,2)", "A(min,max,2)"]
+    + ["N(noise)", "A(count,sum,2)+N(noise)", "T(add,sub)+N(noise)", "A(sum,257)"]
 )
 
 
@@ -226,6 +226,15 @@ def overlaid_text(rng, name):
     overlays = [overlay_for(rng, tables) for _ in range(4)]
     texts = [[*lines, *sum(overlays, [])], ["container reversed", *lines[1:], *sum(reversed(overlays), [])]]
     return "answers overlays\n" + "".join("\n".join(text) + "\n" for text in texts)
+
+
+def earlier(rng, data, at):
+    """A container whose labels, at these offsets, have a minimum of 1 in place of 2, now and then, and that is damaged now and then."""
+    data = bytearray(data)
+    for place in at:
+        if data[place] == 2 and rng.random() < 0.6:
+            data[place] = 1
+    return damaged_bytes(rng, bytes(data)) if rng.random() < 0.3 else bytes(data)
 
 
 def draws(rng):

@@ -81,8 +81,8 @@ STATE = [
     ),
     (
         ["SCAN 0", "APPLY 0 cut 1", "GROUP sum 1"],
-        ["table 1", "5:T(cut2)+A(sum,1)"],
-        "it cut 1 digit off, and T(cut2) asks for at least 2. The label is T(cut2)+A(sum,1): first APPLY cut by at least 2 digits, then GROUP",
+        ["table 1", "5:T(cut2)+A(sum,2)"],
+        "it cut 1 digit off, and T(cut2) asks for at least 2. The label is T(cut2)+A(sum,2): first APPLY cut by at least 2 digits, then GROUP",
     ),
     (
         ["SCAN 0", "APPLY 0 add 1"],
@@ -127,8 +127,8 @@ STATE = [
     ),
     (
         ["SCAN 0", "GROUP sum 0"],
-        ["table 1", "5:A(sum,1)+N(noise)"],
-        "has 1 sheet; A is gone; N(noise) asks for a NOISE.",
+        ["table 1", "5:A(sum,2)+N(noise)", "6:A(sum,2)+N(noise)"],
+        "has 2 sheets; A is gone; N(noise) asks for a NOISE.",
     ),
     (
         ["SCAN 0", "FILTER 0 = 5"],
@@ -311,7 +311,35 @@ INPUT = [
     (["SCAN 0"], ["table 1 sheets 0", "1:T(cut3)"], "Table 0, row 0, column 0 is a sheet number, and it is not clear, with the label T(cut3)."),
     (["SCAN 0"], ["table 1 sheets 0", "-1:H"], "is a sheet number, and it is negative and not clear, with the label H."),
     (["SCAN 0"], ["table 1", "5:00000001"], "has the label 00000001: it has a group minimum, 1, and A (bit 29) is absent."),
-    (["SCAN 0"], ["table 1", "5:20030000"], "has the label 20030000: A is present with a group minimum of 0, and this is 1 to 1,023."),
+    (["SCAN 0"], ["table 1", "5:20030000"], "has the label 20030000: A is present with a group minimum of 0, and this is 2 to 1,023.\nNothing"),
+    (
+        ["SCAN 0"],
+        ["table 1", "5:20000001"],
+        "has the label 20000001: A is present with a group minimum of 1, and this is 2 to 1,023.\n"
+        "The program convert raises each minimum of 1 in this container to 2.\nNothing",
+    ),
+    (
+        ["SCAN 0"],
+        ["table 2", "5:F4820401 140737488355328"],
+        "The program convert raises each minimum of 1 to 2 where nothing else is wrong, and it refuses this container with 14 at byte 50: table 0,"
+        " row 0, column 1 has a value outside -140,737,488,355,328 .. 140,737,488,355,327.\nNothing",
+    ),
+    (
+        ["SCAN 0", "SCAN 0"],
+        ["table 1", "5:20020001"],
+        "and it refuses this container with 18 at byte 50: the plan ends and leaves 2 tables, and it must leave one.\nNothing",
+    ),
+    (
+        ["SCAN 0"],
+        ["table 1 sheets 0", "5:20020001"],
+        "and it refuses this container with 20 at byte 34: table 0, row 0, column 0 is a sheet number, and it is not clear, with the label 20020001.",
+    ),
+    (
+        ["SCAN 0"],
+        ["table 1", "5:20420001"],
+        "bits 22, 21, 15, 14 and 13 are zero, and here 22 is not; A is present with a group minimum of 1, and this is 2 to 1,023.\nNothing",
+    ),
+    (["SCAN 0"], ["table 1", "5:00000001", "6:20020001"], "it has a group minimum, 1, and A (bit 29) is absent.\nNothing"),
     (["SCAN 0"], ["table 1", "5:44000000"], "has the label 44000000: it allows cut with 0 digits, and these are 1 to 6."),
     (["SCAN 0"], ["table 1", "5:41000400"], "has the label 41000400: it has digits, 1, and cut (bit 26) is not allowed."),
     (["SCAN 0"], ["table 1", "5:01000000"], "has the label 01000000: it allows add at T, and T (bit 30) is absent."),
@@ -427,6 +455,20 @@ OVERLAYS_REFUSED = [
         ["overlay", "labels", "00000001", "labels clear"],
         "An overlay is refused (22) at its byte 22: a label is ill-formed, or not zero in a column of sheet numbers.\n"
         "Overlay 0: table 0, row 0, column 0 has the label 00000001: it has a group minimum, 1, and A (bit 29) is absent.",
+    ),
+    (
+        ["overlay", "labels", "30820001", "labels clear"],
+        "Overlay 0: table 0, row 0, column 0 has the label 30820001: A is present with a group minimum of 1, and this is 2 to 1,023.\n"
+        "Overlays are not converted: have this one delivered anew.\nNothing",
+    ),
+    (
+        ["overlay", "overlay", "labels clear", "labels", "20020001 ."],
+        "Overlay 1: table 1, row 0, column 0 has the label 20020001: A is present with a group minimum of 1, and this is 2 to 1,023.\n"
+        "Overlays are not converted: have this one delivered anew.\nNothing",
+    ),
+    (
+        ["overlay", "labels", "20000000", "labels clear"],
+        "Overlay 0: table 0, row 0, column 0 has the label 20000000: A is present with a group minimum of 0, and this is 2 to 1,023.\nNothing",
     ),
     (
         ["overlay", "labels clear", "labels", "T(add) ."],

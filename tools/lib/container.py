@@ -1,7 +1,7 @@
 """Makes containers from readable text, and text from containers. docs/CONTAINER.md describes both.
 
-    container make TEXT DIR                     writes a file for each container of TEXT into DIR, and one for its draws or four for
-                                                its overlays, where TEXT has them
+    container make TEXT DIR                     writes a file for each container of TEXT into DIR, and one for its draws, four for its
+                                                overlays or one for what it is converted to, where TEXT has them
     container verify TEXT DIR [NAMES [ANSWERS]] sees whether the files of DIR are those that TEXT makes, and whether the files NAMES
                                                 and ANSWERS are what 'names' and 'expect' print
     container names TEXT                        prints the files' names, one to a line

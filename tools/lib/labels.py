@@ -9,6 +9,8 @@ STAGES = "HTAN"
 TRANSFORMS = ("add", "sub", "cut", "band")  # allowed at T: bits 24 to 27
 AGGREGATES = ("count", "sum", "min", "max", "avg")  # allowed at A: bits 16 to 20
 RESERVED = (22, 21, 15, 14, 13)
+LEAST_MINIMUM = 2  # the smallest group minimum
+EARLIER_MINIMUM = 1  # the smallest one in containers that the program convert reads
 
 
 def field(word, at, width):
@@ -49,8 +51,8 @@ def aggregates(word):
 # Well-formed words
 
 
-def faults(word):
-    """The rules that a word breaks, in sentences; none where it is well-formed."""
+def faults(word, least=LEAST_MINIMUM):
+    """The rules that a word breaks, in sentences; none where it is well-formed. `least` is the smallest group minimum."""
     ones = [str(bit) for bit in RESERVED if word >> bit & 1]
     found = [f"bits 22, 21, 15, 14 and 13 are zero, and here {', '.join(ones)} {'is' if len(ones) == 1 else 'are'} not"] if ones else []
     if transforms(word) and not has(word, "T"):
@@ -61,13 +63,18 @@ def faults(word):
         found.append(f"it has digits, {digits(word)}, and cut (bit 26) is not allowed")
     if aggregates(word) and not has(word, "A"):
         found.append(f"it allows {', '.join(aggregates(word))} at A, and A (bit 29) is absent")
-    if has(word, "A") and minimum(word) == 0:
-        found.append("A is present with a group minimum of 0, and this is 1 to 1,023")
+    if has(word, "A") and minimum(word) < least:
+        found.append(f"A is present with a group minimum of {minimum(word)}, and this is {least} to 1,023")
     if minimum(word) and not has(word, "A"):
         found.append(f"it has a group minimum, {minimum(word)}, and A (bit 29) is absent")
     if allows_noise(word) and not has(word, "N"):
         found.append("it allows noise at N, and N (bit 28) is absent")
     return found
+
+
+def has_earlier_minimum(word):
+    """Whether a word is ill-formed for its group minimum of 1 alone, which was allowed before."""
+    return bool(faults(word)) and not faults(word, EARLIER_MINIMUM)
 
 
 # Discharge and composition
@@ -182,7 +189,7 @@ def minimum_bits(stage_name, inside):
         numbers = [one for one in inside if re.fullmatch("[0-9]+", one)]
         problem = f"the group minimum {numbers[0]} does not stand last" if numbers else "there is no group minimum"
         raise Fault(f"in {quoted(stage_name)} {problem}; A(sum,10) asks for a sum over at least 10 sheets")
-    return number(word, 1, 1023, "the group minimum")
+    return number(word, LEAST_MINIMUM, 1023, "the group minimum")
 
 
 def stage_word(text):
@@ -277,7 +284,8 @@ def explained(word):
     if word == 0:
         return ["00000000 is the label of a clear cell: it may be compared, computed with and released."]
     if faults(word):
-        return [f"{word:08X} is ill-formed: {fault}." for fault in faults(word)]
+        conversion = ["A container that was written when 1 was allowed may have it: the program convert raises it to 2."] * has_earlier_minimum(word)
+        return [f"{word:08X} is ill-formed: {fault}." for fault in faults(word)] + conversion
     lines, present = [f"{word:08X} is {label_text(word)}."], stages(word)
     for i, stage in enumerate(present):
         lines.append(f"{'Then' if i else 'First'} {stage}: {asks(word, stage)}.")

@@ -14,8 +14,8 @@ COLUMNS, ROWS, STEPS, TABLES, DEPTH = 8, 256, 64, 8, 3
 DRAWS = (STEPS - 1) * ROWS  # no plan uses more: its first step is a SCAN
 CELL = 12
 
-# why the input is refused: the number of documents 01 and 02, the byte offset, and the reason in words
-Refusal = namedtuple("Refusal", "number place reason")
+# why the input is refused: the number of documents 01 and 02, the byte offset, the reason in words, and the label where it is one
+Refusal = namedtuple("Refusal", "number place reason label", defaults=(None,))
 Contents = namedtuple("Contents", "plan tables")
 # a table as the container has it: the column of sheet numbers, or None; its rows are lists of pairs, value and label
 Table = namedtuple("Table", "columns sheets rows")
@@ -109,14 +109,14 @@ def cells(part):
     return list(struct.iter_unpack("<qI", part[4:]))
 
 
-def cell_fault(table, columns, at, cell, value, label):
+def cell_fault(table, columns, at, cell, value, label, least):
     """14 and 15 of one cell of a part that begins at `at`."""
     where = f"table {table}, row {cell // columns}, column {cell % columns}"
     if not steps.LEAST <= value <= steps.MOST:
         return Refusal(14, at + 4 + CELL * cell, f"{where} has a value outside {steps.LEAST:,} .. {steps.MOST:,}")
-    broken = labels.faults(label)
+    broken = labels.faults(label, least)
     if broken:
-        return Refusal(15, at + 12 + CELL * cell, f"{where} has the label {label:08X}: {'; '.join(broken)}")
+        return Refusal(15, at + 12 + CELL * cell, f"{where} has the label {label:08X}: {'; '.join(broken)}", label)
     return None
 
 
@@ -139,14 +139,14 @@ def sheets_fault(table, part):
     return None
 
 
-def check_tables(parts, starts):
+def check_tables(parts, starts, least):
     """For each table 13, then for each cell 14, 15, then 20."""
     for part, at, table in zip(parts[1:], starts[1:], range(len(parts))):
         broken = header_fault(part)
         if broken:
             return Refusal(13, at, f"table {table}: {broken}")
         for cell, (value, label) in enumerate(cells(part)):
-            refusal = cell_fault(table, part[0], at, cell, value, label)
+            refusal = cell_fault(table, part[0], at, cell, value, label, least)
             if refusal:
                 return refusal
         broken = sheets_fault(table, part)
@@ -285,14 +285,27 @@ def check_plan(part, at, widths):
     return None
 
 
-def check(data):
-    """The refusal of a container because of the input, or None."""
+def check(data, least=labels.LEAST_MINIMUM):
+    """The refusal of a container because of the input, or None. `least` is the smallest group minimum."""
     refusal = check_container(data) or check_directory(data)
     if refusal:
         return refusal
     parts = parts_of(data)
     starts = [pair(data, part)[0] for part in range(len(parts))]
-    return check_tables(parts, starts) or check_plan(parts[0], starts[0], [part[0] for part in parts[1:]])
+    return check_tables(parts, starts, least) or check_plan(parts[0], starts[0], [part[0] for part in parts[1:]])
+
+
+def conversion(data, refusal):
+    """What the program convert does with the minimum of 1 for which a container, or an overlay of it, is refused; None for another refusal."""
+    if refusal.label is None or not labels.has_earlier_minimum(refusal.label):
+        return None
+    if refusal.number != 15:
+        return "overlays are not converted: have this one delivered anew"
+    earlier = check(data, labels.EARLIER_MINIMUM)
+    if earlier is None:
+        return "the program convert raises each minimum of 1 in this container to 2"
+    also = f"it refuses this container with {earlier.number} at byte {earlier.place}: {earlier.reason}"
+    return f"the program convert raises each minimum of 1 to 2 where nothing else is wrong, and {also}"
 
 
 def table_of(part):

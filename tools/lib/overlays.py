@@ -99,7 +99,7 @@ def check_labels(parts, tables, starts):
             broken = label_fault(label, cell % columns == sheets)
             if broken:
                 reason = f"table {table}, row {cell // columns}, column {cell % columns} {broken}"
-                return Refusal(22, starts[table] + 4 + LABEL * cell, reason)
+                return Refusal(22, starts[table] + 4 + LABEL * cell, reason, label)
     return None
 
 

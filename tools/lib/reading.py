@@ -30,14 +30,15 @@ def told(lines):
 
 
 class Reading:
-    """A container's file and those of its overlays: why the input is refused, or the plan, the tables with the labels that the overlays leave
-    them, and, once it was evaluated, the evaluation."""
+    """A container's file and those of its overlays: why the input is refused and whether a conversion helps, or the plan, the tables with the
+    labels that the overlays leave them, and, once it was evaluated, the evaluation."""
 
     def __init__(self, path, overlay_paths=()):
         data, self.overlays = read_file(path, layout.LONGEST), [read_file(one, overlays.LONGEST) for one in overlay_paths]
         with_overlays = f"with {plural(len(self.overlays), 'overlay')}" if self.overlays else "without overlays"
         self.name = f"{plain(path)} {with_overlays}"
         self.refusal = layout.check(data) or overlays.check(data, self.overlays)
+        self.conversion = layout.conversion(data, self.refusal) if self.refusal else None
         self.plan, self.tables, self.result = [], [], None
         if self.refusal is None:
             self.plan, self.given_tables = layout.contents(data)

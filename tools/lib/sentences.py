@@ -55,7 +55,8 @@ ACTIONS = {
     12: "Send the file again, byte for byte and not as text. If it is refused again, tell the vendor of the program that wrote it.",
     13: "Ask whoever wrote the table for a new one. Never have the rows of one precinct put into two tables.",
     14: "Ask whoever wrote the table to correct the cell.",
-    15: "Ask whoever sets the labels to write this one again. Never have it set to zero.",
+    15: "If its minimum is 1, have the container converted; otherwise ask whoever sets the labels to write this one again. Never have it set"
+    " to zero.",
     16: "Ask the analyst for the plan again.",
     17: "Ask the analyst to write the step again.",
     18: "Ask the analyst to mend the plan.",
@@ -293,8 +294,7 @@ class Explained:
         what = "An overlay is refused ({}) at its byte {}" if number in OVERLAY else "The container is refused ({}) at byte {}"
         said = [f"{what.format(number, place)}: {INPUT[number]}."]
         if self.reading:
-            reason = self.reading.refusal.reason
-            said.append(f"{reason[0].upper()}{reason[1:]}.")
+            said += [f"{one[0].upper()}{one[1:]}." for one in (self.reading.refusal.reason, self.reading.conversion) if one]
         return said
 
     def refused_state(self, number, k, row, column):

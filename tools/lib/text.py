@@ -20,14 +20,17 @@ LONGEST_MADE = 2 * layout.LONGEST  # bytes of a container or an overlay, a wrong
 MOST_DAMAGE = 100  # directives for a container or an overlay
 LONGEST_OF_ALL = 16 * 2**20  # bytes of all containers of a text, 1,024 for each, and characters of repeated lines, 64 for each
 
-SECTIONS = ("plan", "table", "part", "raw", "damage", "draws", "overlay", "labels", "answer")
-# answers of the input checks, of a run with the container alone, with the draws of a section, and with overlays
-FORMS = ("check", "run", "noise", "overlays")
-ONLY_IN = {"draws": "noise", "overlay": "overlays"}  # sections that stand in texts of one form alone
+SECTIONS = ("plan", "table", "part", "raw", "damage", "draws", "overlay", "labels", "converted", "answer")
+# answers of the input checks, of a run with the container alone, with the draws of a section, and with overlays, and of the conversion
+FORMS = ("check", "run", "noise", "overlays", "convert")
+ONLY_IN = {"draws": "noise", "overlay": "overlays", "converted": "convert"}  # sections that stand in texts of one form alone
 DRAWS = ".draws"  # behind a container's name, the file of its draws
 OVERLAYS = tuple(f".overlay{number}" for number in range(overlays.OVERLAYS))  # the files of its overlays
+CONVERTED = ".converted"  # the file of what it is converted to
 LONGEST_DRAW = 21  # bytes of its lines
+INPUT = "1[1-9]|20"  # refusals of a container because of the input
 PAIRS = "pairs of hexadecimal digits, as in '00 FF'"
+TABLES_ALONE = "behind 'converted' stand tables, and then the answer"
 
 
 @contextlib.contextmanager
@@ -341,27 +344,38 @@ class Overlay(Whole):
         return self.line_in(refusal.place) if refusal.place >= layout.pair_at(len(self.parts)) else self.line
 
 
-class Source(Whole):
-    """A container of a text, with its draws, its overlays and its answer."""
+class Converted(Whole):
+    """What a container of a text is converted to: the same plan, and tables of its own."""
 
-    def __init__(self, name, line, budget):
+    def __init__(self, line, plan, budget):
+        super().__init__("what it is converted to", 1, budget)
+        self.line, self.parts = line, [plan]
+
+
+class Source(Whole):
+    """A container of a text, with its draws, its overlays or what it is converted to, and its answer; `least` is the smallest group minimum
+    that it may have."""
+
+    def __init__(self, name, line, budget, least):
         super().__init__(name, 1, budget)
-        self.line = line
-        self.comments, self.answer, self.draws, self.overlays = [], [], None, []
+        self.line, self.least = line, least
+        self.comments, self.answer, self.answered, self.draws, self.overlays, self.converted = [], [], False, None, [], None
 
     # Reading
 
     def target(self):
-        """What the sections 'part', 'raw' and 'damage' are of: the container, or the overlay that was begun last."""
-        return self.overlays[-1] if self.overlays else self
+        """What the sections 'table', 'part', 'raw' and 'damage' are of: the container, the overlay that was begun last, or what is converted."""
+        return self.overlays[-1] if self.overlays else self.converted or self
 
     def begin(self, words, line):
         """Begins the section that a line names."""
         section = words[0]
         if section in ("plan", "table") and self.overlays:
             raise Fault("the plan and the tables stand before the overlays")
+        if self.converted and section not in ("table", "answer"):
+            raise Fault(TABLES_ALONE)
         if section == "table":
-            self.add_part(Part("table", line, *table_header(words)))
+            self.target().add_part(Part("table", line, *table_header(words)))
         elif section == "labels":
             if not self.overlays:
                 raise Fault("'labels' stands only behind 'overlay'")
@@ -378,6 +392,12 @@ class Source(Whole):
             if len(self.overlays) == overlays.OVERLAYS:
                 raise Fault(f"a container has at most {overlays.OVERLAYS} overlays")
             self.overlays.append(Overlay(len(self.overlays), line, self.budget))
+        elif section == "converted":
+            if not self.parts:
+                raise Fault("'converted' stands behind the plan and the tables")
+            self.converted = Converted(line, self.parts[0], self.budget)
+        elif section == "answer":
+            self.answered = True
         elif section == "draws":
             if self.draws is not None:
                 raise Fault(f"{self.name} has its draws already")
@@ -393,6 +413,8 @@ class Source(Whole):
             self.draws += [number(word, what="the draw") for word in words]
         elif section == "overlay":
             raise Fault("an overlay has sections 'labels', one for each table of the container")
+        elif section == "converted":
+            raise Fault(TABLES_ALONE)
         elif section is None:
             raise Fault(f"{quoted(line)} stands before the first section; sections are {' '.join(SECTIONS)}")
         else:
@@ -411,7 +433,7 @@ class Source(Whole):
         if self.raw is None and not self.parts:
             raise Fault(f"{self.name} has no plan")
         whole = super().made()
-        if not (self.made_wrong() or self.refused_with("1[1-9]|20")):
+        if not (self.made_wrong() or self.refused_with(INPUT)):
             self.check(whole)
         return whole
 
@@ -433,13 +455,27 @@ class Source(Whole):
                 raise unmarked(refusal, f"{overlay.name}: {refusal.reason}", overlay.line_of(refusal))
         return made
 
+    def made_converted(self):
+        """The bytes of what the container is converted to; none where that is refused."""
+        if not self.answered:
+            raise Fault(f"{self.name} has no section 'answer', which may be empty")
+        if self.refused_with(INPUT):
+            if self.converted:
+                raise Fault(f"{self.name} is refused, so there is no section 'converted'")
+            return b""
+        before = super().made()
+        after = self.converted.made() if self.converted else before
+        with at_line(self.converted.line if self.converted else self.line):
+            see_changed(before, after, [number(line, 0, layout.LONGEST - 1, "the offset") for line in self.answer])
+        return after
+
     def check(self, data):
         """A container that is not marked as wrong passes the input checks."""
         if self.parts[0].section != "plan":
             raise Fault(f"{self.name} has no plan; its section comes before the tables")
         if len(self.parts) == 1:
             raise Fault(f"{self.name} has no table")
-        refusal = layout.check(data)
+        refusal = layout.check(data, self.least)
         if refusal:
             raise unmarked(refusal, refusal.reason, self.line_of(refusal))
 
@@ -458,6 +494,21 @@ def unmarked(refusal, reason, line):
     fault = Fault(f"{reason} ({refusal.number} at byte {refusal.place}; what is meant to be wrong says so in its section 'answer')")
     fault.line = line
     return fault
+
+
+def see_changed(before, after, offsets):
+    """Sees that a container and what it is converted to differ at these offsets alone, by a 1 that becomes 2, and that no 1 is left."""
+    if len(before) != len(after):
+        raise Fault(f"the container has {len(before):,} bytes, and what it is converted to {len(after):,}")
+    changed = [at for at, (one, two) in enumerate(zip(before, after)) if one != two]
+    if changed != offsets:
+        said, seen = (", ".join(map(str, some[:8])) + ", .." * (len(some) > 8) or "none" for some in (offsets, changed))
+        raise Fault(f"the offsets of its answer are {said}, and those of the bytes that change are {seen}")
+    if any((before[at], after[at]) != (1, 2) for at in changed):
+        raise Fault("a byte changes otherwise than from 1 to 2")
+    refusal = layout.check(after)
+    if refusal:
+        raise Fault(f"what it is converted to is refused with {refusal.number} at byte {refusal.place}: {refusal.reason}")
 
 
 def put(whole, at, new):
@@ -553,7 +604,7 @@ class Text:
 
     def begin_answers(self, words):
         if self.sources or len(words) != 2:
-            raise Fault("'answers check', 'answers run', 'answers noise' or 'answers overlays' stands before the first container")
+            raise Fault("'answers check', 'run', 'noise', 'overlays' or 'convert' stands before the first container")
         choice(words[1], FORMS, "kind of answers")
         self.form = words[1]
 
@@ -565,12 +616,13 @@ class Text:
             raise Fault(f"there is another container '{words[1]}'")
         self.budget.take(1024)
         self.names.add(words[1])
-        self.sources.append(Source(words[1], count, self.budget))
+        least = labels.EARLIER_MINIMUM if self.form == "convert" else labels.LEAST_MINIMUM
+        self.sources.append(Source(words[1], count, self.budget, least))
         self.section = None
 
     def file_names(self):
-        """The names of all files: each container's, and behind it that of its draws or those of its overlays, where the text has them."""
-        ends = ("", *{"noise": (DRAWS,), "overlays": OVERLAYS}.get(self.form, ()))
+        """The names of all files: each container's, and behind it those of its draws, its overlays or what it is converted to."""
+        ends = ("", *{"noise": (DRAWS,), "overlays": OVERLAYS, "convert": (CONVERTED,)}.get(self.form, ()))
         return [source.name + end for source in self.sources for end in ends]
 
     def files(self):
@@ -583,13 +635,15 @@ class Text:
             if self.form == "overlays":
                 for number, end in enumerate(OVERLAYS):
                     files[source.name + end] = self.guarded(source.line, lambda: source.made_overlay(number))
+            if self.form == "convert":
+                files[source.name + CONVERTED] = self.guarded(source.line, source.made_converted)
         return files
 
     def expected(self):
         """The answers, as the trial programs print them."""
         lines = []
         for source in self.sources:
-            if not source.answer:
+            if not (source.answer or self.form == "convert" and source.answered):
                 raise Failure(f"{plain(self.path)}:{source.line}: {source.name} has no answer")
             if self.form == "check":
                 lines.append(f"{source.name} {' '.join(source.answer)}")
@@ -679,6 +733,7 @@ def shown(path, *overlay_paths):
     refusal = refused or overlays.check(data, over)
     if refusal:
         lines.append(f"# Refused with {refusal.number} at byte {refusal.place}: {refusal.reason}.")
+        lines += [f"# {one[0].upper()}{one[1:]}." for one in [layout.conversion(data, refusal)] if one]
     lines += shown_container(data)
     for overlay in over:
         lines += shown_overlay(overlay, tables)

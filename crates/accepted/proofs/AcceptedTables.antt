@@ -10,12 +10,11 @@ use lib.ListN.{length, getD, drop, length-drop}
 use lib.Seq.{length-take-le}
 use borrow.Author.Tests.{leb-true, ne-eqb, not-true, not-false}
 use Rattle.accepted.specs.Accepted.{TablesCounted, TablesFound, HeaderMeans, Sound, TablesSound, TablesFormed, SheetsSound, TablesSheets}
-use Rattle.container.specs.Check.{accepted, checkTables, checkPlanPart, checkInput}
+use Rattle.container.specs.Check.{accepted, checkTables, checkInput}
 use Rattle.container.specs.Contents.{tablesFrom, inputTables, tablesOf}
-use Rattle.label_words.specs.WellFormed.{wellFormed}
+use Rattle.container.proofs.Passed.{Passed, passed as all-passed}
+use Rattle.label_words.specs.WellFormed.{smallestMinimum, wellFormed}
 use Rattle.layout.specs.Layout.{partCount, offsetOf, partOf}
-use Rattle.directory.specs.Directory.{checkDirectory}
-use Rattle.layout_check.specs.Checks.{checkContainer}
 use Rattle.plan.specs.Sense.{Small}
 use Rattle.plan.specs.Sheets.{marksFrom, marksOf, withMarks, allWithMarks}
 use Rattle.plan.specs.Table.{Cell, Table, noTable, rowsOf, Each, Shaped}
@@ -30,27 +29,17 @@ use Rattle.sheet_check.specs.Sheets.{sheetFits, allFit, sheetsFit}
 use Rattle.table_part.proofs.Laws.{cells-length, cell-there}
 use Rattle.value.specs.Pattern.{negative}
 
--- the four checks that an accepted container has passed
-pub record Checks (bytes : List ℕ) : Type 0 where
-  pub container : checkContainer bytes ≡ accepted
-  pub directory : checkDirectory 12 bytes ≡ accepted
-  pub tables : checkTables bytes 1 (partCount bytes - 1) ≡ accepted
-  pub plan : checkPlanPart bytes ≡ accepted
-
-pub checks : (bytes : List ℕ) → checkInput bytes ≡ accepted → Checks bytes
+pub checks : (bytes : List ℕ) → checkInput bytes ≡ accepted → Passed smallestMinimum bytes
 unfolding checkInput
-checks bytes e =
-    let c = both (checkContainer bytes) _ e in
-    let d = both (checkDirectory 12 bytes) _ (c .1) in
-    let t = both (checkTables bytes 1 (partCount bytes - 1)) _ (d .1) in
-    record { container = c .0; directory = d .0; tables = t .0; plan = t .1 }
+checks bytes e = all-passed smallestMinimum bytes e
 
 -- ---- a table part
 
 abbrev SoundCell : Cell → Type 0
 SoundCell cell = (inRange (cell .value) ≡ true) × (wellFormed (cell .label) ≡ true)
 
-sound-cells : (part : List ℕ) (at cell more : ℕ) → checkCells part at cell more ≡ accepted → Each SoundCell (cellsFrom part cell more)
+sound-cells : (part : List ℕ) (at cell more : ℕ) → checkCells smallestMinimum part at cell more ≡ accepted → Each SoundCell (cellsFrom part cell more)
+unfolding wellFormed
 sound-cells part at cell zero e = tt
 sound-cells part at cell (suc more) e =
     let v = passed (not (inRange (valueOf part cell))) 14 (at + valuePlace cell) _ e in
@@ -101,16 +90,16 @@ pub record Good (table : Table) : Type 0 where
   pub few : table .columns ≤ 8
   pub sound : Sound table
 
-module _ (part : List ℕ) (at : ℕ) (e : checkTable part at ≡ accepted) where
+module _ (part : List ℕ) (at : ℕ) (e : checkTable smallestMinimum part at ≡ accepted) where
   pub header-fits : headerFits part ≡ true
   unfolding checkTable
   header-fits = not-false _ (passed (not (headerFits part)) 13 at _ e .0)
 
   -- 14 and 15, and then 20
-  cells-pass : (checkCells part at 0 (cellCount part) ≡ accepted) × (sheetsFit part ≡ true)
+  cells-pass : (checkCells smallestMinimum part at 0 (cellCount part) ≡ accepted) × (sheetsFit part ≡ true)
   unfolding checkTable
   cells-pass =
-      let b = both (checkCells part at 0 (cellCount part)) _ (passed (not (headerFits part)) 13 at _ e .1) in
+      let b = both (checkCells smallestMinimum part at 0 (cellCount part)) _ (passed (not (headerFits part)) 13 at _ e .1) in
       (b .0, not-false _ (not-so (not (sheetsFit part)) 20 at (b .1)))
 
   good : (table : ℕ) → Good (withMarks table (tableOf part))
@@ -163,24 +152,24 @@ module _ (part : List ℕ) (at : ℕ) (e : checkTable part at ≡ accepted) wher
 -- ---- all of them
 
 module _ (bytes : List ℕ) where
-  tables-good : (table part more : ℕ) → checkTables bytes part more ≡ accepted → Each Good (allWithMarks table (tablesFrom bytes part more))
+  tables-good : (table part more : ℕ) → checkTables smallestMinimum bytes part more ≡ accepted → Each Good (allWithMarks table (tablesFrom bytes part more))
   tables-good table part zero e = tt
   tables-good table part (suc more) e =
-      let b = both (checkTable (partOf bytes part) (offsetOf bytes part)) _ e in
+      let b = both (checkTable smallestMinimum (partOf bytes part) (offsetOf bytes part)) _ e in
       (good (partOf bytes part) (offsetOf bytes part) (b .0) table, tables-good (suc table) (suc part) more (b .1))
 
-  inputs-sound : (part more : ℕ) → checkTables bytes part more ≡ accepted → Each SheetsSound (tablesFrom bytes part more)
+  inputs-sound : (part more : ℕ) → checkTables smallestMinimum bytes part more ≡ accepted → Each SheetsSound (tablesFrom bytes part more)
   inputs-sound part zero e = tt
   inputs-sound part (suc more) e =
-      let b = both (checkTable (partOf bytes part) (offsetOf bytes part)) _ e in
+      let b = both (checkTable smallestMinimum (partOf bytes part) (offsetOf bytes part)) _ e in
       (sheets-sound (partOf bytes part) (offsetOf bytes part) (b .0), inputs-sound (suc part) more (b .1))
 
-  cells-formed : (part more : ℕ) → checkTables bytes part more ≡ accepted
+  cells-formed : (part more : ℕ) → checkTables smallestMinimum bytes part more ≡ accepted
       → Each (λ table. Each (λ cell. wellFormed (cell .label) ≡ true) (table .cells)) (tablesFrom bytes part more)
   unfolding tableOf
   cells-formed part zero e = tt
   cells-formed part (suc more) e =
-      let b = both (checkTable (partOf bytes part) (offsetOf bytes part)) _ e in
+      let b = both (checkTable smallestMinimum (partOf bytes part) (offsetOf bytes part)) _ e in
       let cells = cellsFrom (partOf bytes part) 0 (cellCount (partOf bytes part)) in
       (each-weaken SoundCell _ (λ _ s. s .1) cells (sound-cells (partOf bytes part) (offsetOf bytes part) 0 (cellCount (partOf bytes part)) (cells-pass (partOf bytes part) (offsetOf bytes part) (b .0) .0)), cells-formed (suc part) more (b .1))
 
@@ -188,16 +177,16 @@ module _ (bytes : List ℕ) where
   tables-length table part zero = refl
   tables-length table part (suc more) = ap suc (tables-length (suc table) (suc part) more)
 
-  table-at : (table part more t : ℕ) → checkTables bytes part more ≡ accepted → t < more
+  table-at : (table part more t : ℕ) → checkTables smallestMinimum bytes part more ≡ accepted → t < more
       → (headerFits (partOf bytes (part + t)) ≡ true) × (sheetsOf (partOf bytes (part + t)) ≤ columnsOf (partOf bytes (part + t)))
       × (getD (allWithMarks table (tablesFrom bytes part more)) t noTable ≡ withMarks (table + t) (tableOf (partOf bytes (part + t))))
   table-at table part zero t e h = absurd (omega arith)
   table-at table part (suc more) zero e h =
-      let b = both (checkTable (partOf bytes part) (offsetOf bytes part)) _ e .0 in
+      let b = both (checkTable smallestMinimum (partOf bytes part) (offsetOf bytes part)) _ e .0 in
       rw (add-zero part, add-zero table) (header-fits (partOf bytes part) (offsetOf bytes part) b, within-columns (partOf bytes part) (offsetOf bytes part) b (sheetsOf (partOf bytes part)) refl, refl)
   table-at table part (suc more) (suc t) e h =
       rw (add-suc part t ∙ sym (suc-add part t), add-suc table t ∙ sym (suc-add table t))
-      (table-at (suc table) (suc part) more t (both (checkTable (partOf bytes part) (offsetOf bytes part)) _ e .1) (omega arith))
+      (table-at (suc table) (suc part) more t (both (checkTable smallestMinimum (partOf bytes part) (offsetOf bytes part)) _ e .1) (omega arith))
 
 pub tables-counted : TablesCounted
 unfolding tablesOf inputTables

@@ -41,13 +41,16 @@ module _ (bytes answer : List ℕ) (P : CheckCall → Type 0) where
 
 -- ---- demand 1
 
-two-kept : {a b : ℕ} {answer : List ℕ} → 2 ≤ length answer → RestKept 2 answer a (a ∷ b ∷ drop 2 answer)
+pub two-kept : {a b : ℕ} {answer : List ℕ} → 2 ≤ length answer → RestKept 2 answer a (a ∷ b ∷ drop 2 answer)
 two-kept {a} {b} {answer} h = record { first = λ _ x. refl; past = refl; same-length = over-length (a ∷ b ∷ []) answer h }
+
+pub none-kept : {answer : List ℕ} → length answer < 2 → RestKept 2 answer 1 answer
+none-kept few = record { first = λ long. absurd (omega arith); past = refl; same-length = refl }
 
 pub check-keeps-rest : demands.CheckKeepsRest
 check-keeps-rest bytes answer =
     by-check bytes answer (λ call. RestKept 2 answer (call .number) (call .answer))
-    (λ few. record { first = λ long. absurd (omega arith); past = refl; same-length = refl }) told
+    none-kept told
   where
     told : 2 ≤ length answer → (verdict : InputVerdict) → checkInput bytes ≡ verdict
         → let call = checkTold (checkNumbersOf verdict) answer in RestKept 2 answer (call .number) (call .answer)
@@ -63,8 +66,9 @@ pub check-refuses : demands.CheckRefuses
 check-refuses bytes answer h number place e = rw (long-check bytes answer h, e)
 
 pub check-means : demands.CheckMeans
+unfolding checkInput
 check-means bytes answer = by-check bytes answer (demands.Checked bytes answer) (λ few. demands.short few refl) told
   where
     told : 2 ≤ length answer → (verdict : InputVerdict) → checkInput bytes ≡ verdict → demands.Checked bytes answer (checkTold (checkNumbersOf verdict) answer)
     told h accepted e = demands.accepts h refl e
-    told h (rejected number place) e = let n = input-numbers bytes number place e in demands.refuses h refl e (n .0) (n .1)
+    told h (rejected number place) e = let n = input-numbers _ bytes number place e in demands.refuses h refl e (n .0) (n .1)

@@ -1,10 +1,11 @@
--- The two functions that callers in C, C++ and Rust have: what a call returns and leaves in the lent slices, the slice for the answer included.
+-- The three functions that callers in C, C++ and Rust have: what a call returns and leaves in the lent slices, the slice for the answer included.
 use Prim.Native.Nat.{ℕ}
 use mathlib.Core.Bool.{cond}
 use mathlib.Core.List.{List, [], _∷_}
 use lib.Dec.{leb}
 use lib.ListN.{length, getD}
 use Rattle.container.specs.Check.{checkInput}
+use Rattle.conversion.specs.Converting.{ConversionVerdict, changed, refused, Conversion, conversion}
 use Rattle.input.specs.Verdict.{InputVerdict, accepted, rejected}
 use Rattle.demands.specs.Answers.{Told, released, refusedInput, refusedState}
 use Rattle.demands.specs.Given.{Given}
@@ -56,3 +57,28 @@ checkTold numbers answer = checkCalled (getD numbers 0 0) (written numbers answe
 -- the same with the input checks, whose answer needs 2 elements
 unfoldable pub checkCall : List ℕ → List ℕ → CheckCall
 checkCall bytes answer = cond (leb 2 (length answer)) (checkTold (checkNumbersOf (checkInput bytes)) answer) (checkCalled 1 answer)
+
+-- ---- `cilunovay_convert`
+
+-- what a conversion answers: 0 and how many labels it changed; or the number and the place
+abbrev pub convertNumbersOf : ConversionVerdict → List ℕ
+convertNumbersOf (changed count) = 0 ∷ count ∷ []
+convertNumbersOf (refused number place) = number ∷ place ∷ []
+
+pub record ConvertCall : Type 0 where
+  pub number : ℕ
+  pub converted : List ℕ
+  pub offsets : List ℕ
+  pub answer : List ℕ
+
+abbrev pub convertCalled : ℕ → List ℕ → List ℕ → List ℕ → ConvertCall
+convertCalled number converted offsets answer = record { number = number; converted = converted; offsets = offsets; answer = answer }
+
+abbrev pub convertTold : Conversion → List ℕ → ConvertCall
+convertTold made answer =
+    convertCalled (getD (convertNumbersOf (made .told)) 0 0) (made .new) (made .offsets) (written (convertNumbersOf (made .told)) answer)
+
+-- the same with a conversion, whose answer needs 2 elements
+unfoldable pub convertCall : List ℕ → List ℕ → List ℕ → List ℕ → ConvertCall
+convertCall bytes converted offsets answer =
+    cond (leb 2 (length answer)) (convertTold (conversion bytes converted offsets) answer) (convertCalled 1 converted offsets answer)

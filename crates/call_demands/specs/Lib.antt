@@ -3,3 +3,4 @@ pub mod Calls
 pub mod CallMemory
 pub mod CallAccuracy
 pub mod CheckDemands
+pub mod ConvertDemands

@@ -7,7 +7,8 @@ use Rattle.input.specs.Answers.{inputTells}
 use Rattle.input.specs.Verdict.{rejected}
 use Rattle.input.specs.declared.InputRefusal.{InputRefusal}
 use Rattle.demands.specs.Answers.{refusedInput, refusedState}
-use Rattle.call_demands.specs.Calls.{numbersOf, checkNumbersOf}
+use Rattle.call_demands.specs.Calls.{numbersOf, checkNumbersOf, convertNumbersOf}
+use Rattle.conversion.specs.Converting.{refused}
 use Rattle.memory.specs.Refusals.{refusalTells}
 use Rattle.memory.specs.declared.Refusal.{Refusal}
 use Rattle.input.proofs.Numbers.{input-tells}
@@ -34,3 +35,6 @@ step-told step refusal e =
     let n = verdicts refusal in
     ap (λ (told : List ℕ). getD told 0 0 ∷ step ∷ getD told 1 0 ∷ getD told 2 0 ∷ []) (e ∙ n .tells three)
     ∙ sym (ap numbersOf (n .tells (λ number row column. refusedState number step row column)))
+
+pub conversion-told : (refusal : InputRefusal) → inputTells two refusal ≡ convertNumbersOf (inputTells refused refusal)
+conversion-told refusal = let n = input-tells refusal in n .tells two ∙ sym (ap convertNumbersOf (n .tells refused))

@@ -1,4 +1,4 @@
-// The answers of a run and of the input checks as numbers.
+// The answers of a run, of the input checks and of a conversion as numbers.
 ghost use mathlib.Core.List.{[], _∷_};
 ghost use mathlib.Core.Path.{_≡_};
 ghost use Prim.Native.Nat.{_≤_};
@@ -6,7 +6,9 @@ ghost use lib.ListN.{getD};
 ghost use Rattle.input.specs.Answers.{planTells, inputTells, inputSays};
 ghost use Rattle.memory.specs.Refusals.{refusalTells};
 ghost use Rattle.run_answers.specs.Answers.{runSays};
-ghost use Rattle.call_demands.specs.Calls.{numbersOf, checkNumbersOf};
+ghost use Rattle.call_demands.specs.Calls.{numbersOf, checkNumbersOf, convertNumbersOf};
+ghost use Rattle.conversion.specs.Converting.{conversionSays};
+use conversion::ConversionAnswer;
 use input::InputCheck;
 use input::InputRefusal;
 use input::PlanRefusal;
@@ -43,6 +45,18 @@ pub fn check_numbers(check: InputCheck) -> [u64; 2]
     match check {
         InputCheck::Accepted => [0, 0],
         InputCheck::Refused(refusal) => input_numbers(refusal),
+    }
+}
+
+// The numbers of what a conversion answers.
+pub fn conversion_numbers(answer: ConversionAnswer) -> [u64; 2]
+    ensures { λ r. ⌜ r ≡ convertNumbersOf (conversionSays answer) ⌝ }
+    ensures { λ r. ⌜ getD r 0 0 ≤ 22 ⌝ }
+{
+    match answer {
+        ConversionAnswer::Converted(count) => [0, count as u64],
+        ConversionAnswer::TooShort => [1, 0],
+        ConversionAnswer::Refused(refusal) => input_numbers(refusal),
     }
 }
 

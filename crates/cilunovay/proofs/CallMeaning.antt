@@ -1,4 +1,4 @@
--- What the two calls do is what `runCall` and `checkCall` say. Assumes nothing.
+-- What the three calls do is what `runCall`, `checkCall` and `convertCall` say. Assumes nothing.
 use Prim.Native.Nat.{ℕ, _≤_, _<_}
 use mathlib.Core.Path.{_≡_, refl, sym, ap, _∙_}
 use mathlib.Core.List.{List, [], _∷_}
@@ -7,12 +7,14 @@ use lib.ListN.{length, getD, set}
 use Rattle.container.specs.Check.{checkInput}
 use Rattle.input.specs.Verdict.{InputVerdict, accepted, rejected}
 use Rattle.demands.specs.Answers.{Told, released, refusedInput, refusedState}
-use Rattle.call_demands.specs.Calls.{numbersOf, runCalled, runTold, runCall, checkNumbersOf, checkCalled, checkTold, checkCall}
+use Rattle.call_demands.specs.Calls.{numbersOf, runCalled, runTold, runCall, checkNumbersOf, checkCalled, checkTold, checkCall, convertNumbersOf, convertCalled, convertTold, convertCall}
 use Rattle.demands.specs.Given.{Given}
 use Rattle.demands.specs.Lent.{Lent}
 use Rattle.demands.specs.Monitor.{Run, ended, written, monitor}
 use Rattle.call_demands.proofs.CallProof.{long-call, call-short-keeps-all}
 use Rattle.call_demands.proofs.CheckProof.{long-check, check-short-keeps-all}
+use Rattle.call_demands.proofs.ConvertProof.{long-convert, convert-short-keeps-all}
+use Rattle.conversion.specs.Converting as converting
 
 -- ---- numbers stored one by one at the start of a slice
 
@@ -43,6 +45,10 @@ verdict-stored : (verdict : InputVerdict) (old : List ℕ) → 2 ≤ length old 
 verdict-stored accepted = two-stored 0 0
 verdict-stored (rejected number place) = two-stored number place
 
+conversion-stored : (told : converting.ConversionVerdict) (old : List ℕ) → 2 ≤ length old → twoStored (convertNumbersOf told) old ≡ written (convertNumbersOf told) old
+conversion-stored (converting.changed count) = two-stored 0 count
+conversion-stored (converting.refused number place) = two-stored number place
+
 -- ---- the calls
 
 module _ (given : Given) (lent : Lent) (answer : List ℕ) where
@@ -68,3 +74,16 @@ module _ (bytes answer : List ℕ) where
       ∙ ap (λ (l : List ℕ). checkCalled (getD (checkNumbersOf verdict) 0 0) l) (verdict-stored verdict answer h)
       ∙ ap (λ (v : InputVerdict). checkTold (checkNumbersOf v) answer) e
       ∙ sym (long-check bytes answer h)
+
+module _ (bytes new offsets answer : List ℕ) where
+  pub convert-short : length answer < 2 → convertCalled 1 new offsets answer ≡ convertCall bytes new offsets answer
+  convert-short h = sym (convert-short-keeps-all bytes new offsets answer h)
+
+  pub convert-long : {told : converting.ConversionVerdict} {converted changed numbers : List ℕ} → 2 ≤ length answer
+      → converting.ended told converted changed ≡ converting.conversion bytes new offsets → numbers ≡ convertNumbersOf told
+      → convertCalled (getD numbers 0 0) converted changed (twoStored numbers answer) ≡ convertCall bytes new offsets answer
+  convert-long {told} {converted} {changed} {numbers} h e n =
+      ap (λ (l : List ℕ). convertCalled (getD l 0 0) converted changed (twoStored l answer)) n
+      ∙ ap (λ (l : List ℕ). convertCalled (getD (convertNumbersOf told) 0 0) converted changed l) (conversion-stored told answer h)
+      ∙ ap (λ (made : converting.Conversion). convertTold made answer) e
+      ∙ sym (long-convert bytes new offsets answer h)

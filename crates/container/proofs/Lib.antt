@@ -1,2 +1,3 @@
--- What the proofs share.
+-- What the proofs share. Passed is also for the proofs of other crates to cite.
+pub mod Passed
 mod TablesLeft

@@ -17,25 +17,25 @@ use Rattle.table_part.specs.TablePart.{columnsOf}
 use Rattle.input.proofs.Laws.{stands, one-left}
 
 -- the tables before one are as they should be: what is left of the check
-pub record Tables (bytes : List ℕ) (count index : ℕ) : Type 0 where
-  pub left : checkTables bytes 1 (count - 1) ≡ checkTables bytes index (count - index)
+pub record Tables (least : ℕ) (bytes : List ℕ) (count index : ℕ) : Type 0 where
+  pub left : checkTables least bytes 1 (count - 1) ≡ checkTables least bytes index (count - index)
 
-pub begin : (bytes : List ℕ) (count : ℕ) → Tables bytes count 1
-begin bytes count = record { left = refl }
+pub begin : (least : ℕ) (bytes : List ℕ) (count : ℕ) → Tables least bytes count 1
+begin least bytes count = record { left = refl }
 
-module _ {bytes : List ℕ} {count index : ℕ} (p : Tables bytes count index) where
+module _ {least : ℕ} {bytes : List ℕ} {count index : ℕ} (p : Tables least bytes count index) where
   table-left : index < count
-      → checkTables bytes 1 (count - 1) ≡ andThen (checkTable (partOf bytes index) (offsetOf bytes index)) (checkTables bytes (suc index) (count - suc index))
+      → checkTables least bytes 1 (count - 1) ≡ andThen (checkTable least (partOf bytes index) (offsetOf bytes index)) (checkTables least bytes (suc index) (count - suc index))
   table-left h = p .left ∙ rw (one-left index count h)
 
-  module _ (r : InputCheck) (h : index < count) (e : inputSays r ≡ checkTable (partOf bytes index) (offsetOf bytes index)) where
-    pub stopped : {why : InputRefusal} → r ≡ check.Refused why → inputSays r ≡ checkTables bytes 1 (count - 1)
-    stopped k = rw (table-left h, ← e) (sym (stands r (checkTables bytes (suc index) (count - suc index)) k))
+  module _ (r : InputCheck) (h : index < count) (e : inputSays r ≡ checkTable least (partOf bytes index) (offsetOf bytes index)) where
+    pub stopped : {why : InputRefusal} → r ≡ check.Refused why → inputSays r ≡ checkTables least bytes 1 (count - 1)
+    stopped k = rw (table-left h, ← e) (sym (stands r (checkTables least bytes (suc index) (count - suc index)) k))
 
-    pub keep : r ≡ check.Accepted → Tables bytes count (index + 1)
+    pub keep : r ≡ check.Accepted → Tables least bytes count (index + 1)
     keep k = record { left = rw (table-left h, ← e, k, add-one index) }
 
-  pub finish : count ≤ index → accepted ≡ checkTables bytes 1 (count - 1)
+  pub finish : count ≤ index → accepted ≡ checkTables least bytes 1 (count - 1)
   finish h = let z : count - index ≡ 0 = omega arith in rw (p .left, z)
 
 -- one width more

@@ -5,6 +5,7 @@ use mathlib.Core.List.{List, [], _∷_}
 use Rattle.input.specs.Verdict.{andThen}
 use Rattle.layout.specs.Layout.{partCount, offsetOf, partOf}
 use Rattle.directory.specs.Directory.{checkDirectory}
+use Rattle.label_words.specs.WellFormed.{smallestMinimum}
 use Rattle.layout_check.specs.Checks.{checkContainer}
 use Rattle.plan_check.specs.PlanCheck.{checkPlan}
 use Rattle.table_check.specs.Checks.{checkTable}
@@ -13,9 +14,9 @@ pub use Rattle.input.specs.Answers.{inputRefusalSays}
 pub use Rattle.input.specs.Verdict.{InputVerdict, accepted, rejected}
 pub use Rattle.input.specs.promises.Checks.{inputSays}
 
-abbrev pub checkTables : List ℕ → ℕ → ℕ → InputVerdict
-checkTables bytes part zero = accepted
-checkTables bytes part (suc more) = andThen (checkTable (partOf bytes part) (offsetOf bytes part)) (checkTables bytes (suc part) more)
+abbrev pub checkTables : ℕ → List ℕ → ℕ → ℕ → InputVerdict
+checkTables least bytes part zero = accepted
+checkTables least bytes part (suc more) = andThen (checkTable least (partOf bytes part) (offsetOf bytes part)) (checkTables least bytes (suc part) more)
 
 -- the columns of the tables, from one part on
 abbrev pub tableWidths : List ℕ → ℕ → ℕ → List ℕ
@@ -25,8 +26,12 @@ tableWidths bytes part (suc more) = columnsOf (partOf bytes part) ∷ tableWidth
 abbrev pub checkPlanPart : List ℕ → InputVerdict
 checkPlanPart bytes = checkPlan (partOf bytes 0) (offsetOf bytes 0) (tableWidths bytes 1 (partCount bytes - 1))
 
-unfoldable pub checkInput : List ℕ → InputVerdict
-checkInput bytes =
+-- the input checks, where no group minimum may be below `least`
+unfoldable pub checkInputFrom : ℕ → List ℕ → InputVerdict
+checkInputFrom least bytes =
     andThen (checkContainer bytes)
     (andThen (checkDirectory 12 bytes)
-    (andThen (checkTables bytes 1 (partCount bytes - 1)) (checkPlanPart bytes)))
+    (andThen (checkTables least bytes 1 (partCount bytes - 1)) (checkPlanPart bytes)))
+
+unfoldable pub checkInput : List ℕ → InputVerdict
+checkInput bytes = checkInputFrom smallestMinimum bytes

@@ -2,7 +2,7 @@
 ghost use mathlib.Core.Path.{_≡_};
 ghost use Prim.Native.Nat.{_-_, _≤_};
 ghost use lib.ListN.{take};
-ghost use Rattle.container.specs.Check.{checkTables, tableWidths, checkPlanPart, checkInput};
+ghost use Rattle.container.specs.Check.{checkTables, tableWidths, checkPlanPart, checkInputFrom, checkInput};
 ghost use Rattle.input.specs.Verdict.{accepted};
 ghost use Rattle.input.specs.promises.Checks.{planSays, inputSays};
 ghost use Rattle.layout.specs.Layout.{partCount};
@@ -19,13 +19,13 @@ use plan_check::check_plan;
 use table_check::check_table;
 
 // 13, 14, 15 and 20 of each table in turn.
-fn check_tables(container: &[u8]) -> InputCheck
-    ensures { λ r. ⌜ inputSays r ≡ checkTables (now (container .entry)) 1 (partCount (now (container .entry)) - 1) ⌝ }
+fn check_tables(container: &[u8], least: u16) -> InputCheck
+    ensures { λ r. ⌜ inputSays r ≡ checkTables least (now (container .entry)) 1 (partCount (now (container .entry)) - 1) ⌝ }
 {
     let count = part_count(container);
     let mut index = 1;
     while index < count {
-        let found = check_table(part(container, index), part_offset(container, index));
+        let found = check_table(part(container, index), part_offset(container, index), least);
         let InputCheck::Accepted = found else {
             return found;
         };
@@ -69,17 +69,24 @@ fn check_plan_part(container: &[u8]) -> InputCheck
     of_plan(check_plan(plan, part_offset(container, 0), &widths[..tables]))
 }
 
-// What is wrong with a container first, if anything is.
-pub fn check_input(container: &[u8]) -> InputCheck
-    ensures { λ r. ⌜ inputSays r ≡ checkInput (now (container .entry)) ⌝ }
+// What is wrong with a container first, if anything is, where no group minimum may be below `least`.
+pub fn check_input_from(container: &[u8], least: u16) -> InputCheck
+    ensures { λ r. ⌜ inputSays r ≡ checkInputFrom least (now (container .entry)) ⌝ }
 {
     let found = check_layout(container);
     let InputCheck::Accepted = found else {
         return found;
     };
-    let found = check_tables(container);
+    let found = check_tables(container, least);
     let InputCheck::Accepted = found else {
         return found;
     };
     check_plan_part(container)
+}
+
+// The same under the smallest minimum that a label may have.
+pub fn check_input(container: &[u8]) -> InputCheck
+    ensures { λ r. ⌜ inputSays r ≡ checkInput (now (container .entry)) ⌝ }
+{
+    check_input_from(container, 2)
 }

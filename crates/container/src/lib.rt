@@ -2,3 +2,4 @@
 mod checks;
 
 pub use checks::check_input;
+pub use checks::check_input_from;

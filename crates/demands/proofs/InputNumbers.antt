@@ -6,7 +6,7 @@ use mathlib.Core.List.{List, [], _∷_}
 use native.Mathlib.Omega.{arith}
 use lib.Dec.{eqb, leb, ltb}
 use lib.ListN.{length, drop}
-use Rattle.container.specs.Check.{checkTables, tableWidths, checkInput}
+use Rattle.container.specs.Check.{checkTables, tableWidths, checkInputFrom, checkInput}
 use Rattle.directory.specs.Directory.{checkPairs, checkDirectory}
 use Rattle.layout_check.specs.Checks.{checkContainer}
 use Rattle.table_check.specs.Checks.{checkCells, checkTable}
@@ -19,7 +19,7 @@ use Rattle.overlay_part.specs.OverlayPart.{labelIn, partFits}
 use Rattle.overlay_part.specs.OverlayPart as of-overlay
 use Rattle.overlays.specs.Overlays.{checkOverlays, checkAll}
 use Rattle.table_part.specs.TablePart.{columnsOf, sheetsOf, rowCount, cellCount, headerFits, valuePlace, labelPlace, valueOf, labelOf}
-use Rattle.label_words.specs.WellFormed.{wellFormed}
+use Rattle.label_words.specs.WellFormed.{smallestMinimum, wellFormedFrom}
 use Rattle.plan.specs.Steps.{takes}
 use Rattle.plan.specs.Widths.{enoughTables, placed, madeColumns}
 use Rattle.plan.specs.declared.Step.{Step}
@@ -66,21 +66,22 @@ bounds (between from to) = (from, to)
 abbrev Numbered : InputVerdict → Type 0
 Numbered = Between 11 20
 
-cells : (part : List ℕ) (at cell more : ℕ) → Numbered (checkCells part at cell more)
-cells part at cell zero = no-number
-cells part at cell (suc more) =
+cells : (least : ℕ) (part : List ℕ) (at cell more : ℕ) → Numbered (checkCells least part at cell more)
+cells least part at cell zero = no-number
+cells least part at cell (suc more) =
     next (not (inRange (valueOf part cell))) 14 (at + valuePlace cell) _ (omega arith) (omega arith)
-    (next (not (wellFormed (labelOf part cell))) 15 (at + labelPlace cell) _ (omega arith) (omega arith) (cells part at (suc cell) more))
+    (next (not (wellFormedFrom least (labelOf part cell))) 15 (at + labelPlace cell) _ (omega arith) (omega arith) (cells least part at (suc cell) more))
 
-table : (part : List ℕ) (at : ℕ) → Numbered (checkTable part at)
+table : (least : ℕ) (part : List ℕ) (at : ℕ) → Numbered (checkTable least part at)
 unfolding checkTable
-table part at =
+table least part at =
     next (not (headerFits part)) 13 at _ (omega arith) (omega arith)
-    (both (checkCells part at 0 (cellCount part)) _ (cells part at 0 (cellCount part)) (only (not (sheetsFit part)) 20 at (omega arith) (omega arith)))
+    (both (checkCells least part at 0 (cellCount part)) _ (cells least part at 0 (cellCount part)) (only (not (sheetsFit part)) 20 at (omega arith) (omega arith)))
 
-tables : (bytes : List ℕ) (part more : ℕ) → Numbered (checkTables bytes part more)
-tables bytes part zero = no-number
-tables bytes part (suc more) = both (checkTable (partOf bytes part) (offsetOf bytes part)) _ (table (partOf bytes part) (offsetOf bytes part)) (tables bytes (suc part) more)
+tables : (least : ℕ) (bytes : List ℕ) (part more : ℕ) → Numbered (checkTables least bytes part more)
+tables least bytes part zero = no-number
+tables least bytes part (suc more) =
+    both (checkTable least (partOf bytes part) (offsetOf bytes part)) _ (table least (partOf bytes part) (offsetOf bytes part)) (tables least bytes (suc part) more)
 
 step-found : (found : Found) (place : ℕ) (tables stack : List ℕ) (later : Step → InputVerdict) → ((step : Step) → Numbered (later step))
     → Numbered (checkFound found place tables stack later)
@@ -94,14 +95,14 @@ steps part at step (suc more) tables stack =
     step-found (stepOf (fieldsAt part step)) (at + 16 * step) tables stack _
     (λ next. steps part at (suc step) more tables (madeColumns next tables stack ∷ drop (takes next) stack))
 
-input : (bytes : List ℕ) → Numbered (checkInput bytes)
-unfolding checkInput checkContainer checkDirectory checkPlan
-input bytes =
+input : (least : ℕ) (bytes : List ℕ) → Numbered (checkInputFrom least bytes)
+unfolding checkInputFrom checkContainer checkDirectory checkPlan
+input least bytes =
     next
     (ltb 65536 (length bytes) || ltb (length bytes) 2 || not (leb 2 (partCount bytes) && leb (partCount bytes) 9) || ltb (length bytes) (pairAt (partCount bytes)))
     11 0 _ (omega arith) (omega arith)
     (both (checkDirectory 12 bytes) _ (pairs 12 (omega arith) (omega arith) bytes 0 (partCount bytes) (pairAt (partCount bytes)))
-    (both (checkTables bytes 1 (partCount bytes - 1)) _ (tables bytes 1 (partCount bytes - 1))
+    (both (checkTables least bytes 1 (partCount bytes - 1)) _ (tables least bytes 1 (partCount bytes - 1))
     (next (not (lengthFits (partOf bytes 0))) 16 (offsetOf bytes 0) _ (omega arith) (omega arith)
     (steps (partOf bytes 0) (offsetOf bytes 0) 0 (stepCount (partOf bytes 0)) (tableWidths bytes 1 (partCount bytes - 1)) []))))
 
@@ -146,13 +147,13 @@ overlays container (bytes ∷ rest) = both (checkOverlay container bytes) _ (ove
 -- ---- all of it
 
 given : (container : List ℕ) (all : List (List ℕ)) → Between 11 22 (checkAll container all)
-unfolding checkAll
+unfolding checkAll checkInput
 given container all =
-    both (checkInput container) _ (wider 11 22 (omega arith) (omega arith) _ (input container))
+    both (checkInput container) _ (wider 11 22 (omega arith) (omega arith) _ (input smallestMinimum container))
     (wider 11 22 (omega arith) (omega arith) _ (overlays container all))
 
 pub given-numbers : (container : List ℕ) (all : List (List ℕ)) (number place : ℕ) → checkAll container all ≡ rejected number place → (11 ≤ number) × (number ≤ 22)
 given-numbers container all number place e = bounds (subst (Between 11 22) e (given container all))
 
-pub input-numbers : (bytes : List ℕ) (number place : ℕ) → checkInput bytes ≡ rejected number place → (11 ≤ number) × (number ≤ 20)
-input-numbers bytes number place e = bounds (subst Numbered e (input bytes))
+pub input-numbers : (least : ℕ) (bytes : List ℕ) (number place : ℕ) → checkInputFrom least bytes ≡ rejected number place → (11 ≤ number) × (number ≤ 20)
+input-numbers least bytes number place e = bounds (subst Numbered e (input least bytes))

@@ -9,3 +9,4 @@ pub use label_words::LabelAnswer;
 pub use label_words::highest_stage;
 pub use label_words::stage_count;
 pub use label_words::well_formed;
+pub use label_words::well_formed_from;

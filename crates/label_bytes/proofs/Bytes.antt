@@ -9,7 +9,7 @@ use lib.Dec.{eqb}
 use lib.ListN.{getD}
 use borrow.Author.Tests.{lt-ltb}
 use Rattle.label_words.specs.Stages.{stageCount}
-use Rattle.label_words.specs.WellFormed.{digitsFit, minimumFits, noiseFits, wellFormed}
+use Rattle.label_words.specs.WellFormed.{digitsFit, minimumFits, noiseFits, smallestMinimum, wellFormedFrom, wellFormed}
 use Rattle.label_words.specs.Word.{fieldAt, bitAt, hasT, hasA, transformsOf, digitsOf, aggregatesOf, minimumOf, noiseOf}
 use Rattle.little_endian.specs.Bytes.{numberAt}
 use Rattle.label_words.proofs.Words.{count-is}
@@ -55,8 +55,8 @@ module _ (bytes : List ℕ) (at : ℕ) (small : (i : ℕ) → getD bytes i 0 < 2
 
   pub bytes-fit : wellFormed (numberAt bytes at 4)
       ≡ (firstFits (getD bytes (at + 3) 0) && secondFits (getD bytes (at + 3) 0) (getD bytes (at + 2) 0) && thirdFits (getD bytes (at + 3) 0) (getD bytes (at + 1) 0)
-      && minimumFits (bitAt (getD bytes (at + 3) 0) 5) (256 * fieldAt (getD bytes (at + 1) 0) 0 2 + getD bytes at 0))
-  unfolding wellFormed
+      && minimumFits smallestMinimum (bitAt (getD bytes (at + 3) 0) 5) (256 * fieldAt (getD bytes (at + 1) 0) 0 2 + getD bytes at 0))
+  unfolding wellFormed wellFormedFrom
   bytes-fit =
       let word = numberAt bytes at 4 in
       let f = fields in
@@ -75,7 +75,7 @@ module _ (bytes : List ℕ) (at : ℕ) (small : (i : ℕ) → getD bytes i 0 < 2
         ← f .digits,
       )
       (reordered (eqb (fieldAt word 21 2) 0) (eqb (fieldAt word 13 3) 0) (hasT word || eqb (transformsOf word) 0) (digitsFit (bitAt word 26) (digitsOf word))
-      (hasA word || eqb (aggregatesOf word) 0) (minimumFits (hasA word) (minimumOf word)) (noiseFits word))
+      (hasA word || eqb (aggregatesOf word) 0) (minimumFits smallestMinimum (hasA word) (minimumOf word)) (noiseFits word))
 
   pub first-ones : ones (getD bytes (at + 3) 0 / 16) ≡ stageCount (numberAt bytes at 4)
   first-ones =

@@ -76,5 +76,5 @@ pub fn well_formed(bytes: &[u8], at: usize) -> bool
         return false;
     }
     let fourth = bytes[at] as u32;
-    within(bit(first, 5), 1, 1023, 256 * field(third, 0, 2) + fourth)
+    within(bit(first, 5), 2, 1023, 256 * field(third, 0, 2) + fourth)
 }

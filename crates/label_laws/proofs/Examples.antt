@@ -5,7 +5,7 @@ use mathlib.Core.List.{List, [], _∷_, _++_}
 use Rattle.label_composition.specs.Composition.{transformsBoth, digitsBoth, aggregatesBoth, minimumBoth, noiseBoth, composed}
 use Rattle.label_discharge.specs.Discharge.{allowsTransform, allowsAggregate, enoughSheets, withoutT, withoutA, transformed, aggregated, forbidsT, forbidsA, afterT, afterA}
 use Rattle.label_laws.specs.Examples.{Example, all, labelRows}
-use Rattle.label_words.specs.WellFormed.{digitsFit, minimumFits, wellFormed}
+use Rattle.label_words.specs.WellFormed.{digitsFit, minimumFits, wellFormedFrom, wellFormed}
 use Rattle.label_words.specs.Word.{fieldAt, packed}
 
 -- two tables one after the other
@@ -16,5 +16,5 @@ all-append (row ∷ rows) others e f =
     rw (both .0) (all-append rows others (both .1) f)
 
 pub label-rows-hold : all labelRows ≡ true
-unfolding labelRows composed transformsBoth digitsBoth aggregatesBoth minimumBoth noiseBoth transformed aggregated forbidsT forbidsA afterT afterA withoutT withoutA allowsTransform allowsAggregate enoughSheets wellFormed digitsFit minimumFits packed fieldAt
+unfolding labelRows composed transformsBoth digitsBoth aggregatesBoth minimumBoth noiseBoth transformed aggregated forbidsT forbidsA afterT afterA withoutT withoutA allowsTransform allowsAggregate enoughSheets wellFormed wellFormedFrom digitsFit minimumFits packed fieldAt
 label-rows-hold = refl

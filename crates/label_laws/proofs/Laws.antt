@@ -10,7 +10,7 @@ use lib.Dec.{eqb, ltb, eqb→eq, lit<}
 use Rattle.label_composition.specs.Composition.{merged, transformsBoth, digitsBoth, aggregatesBoth, minimumBoth, noiseBoth, composed}
 use Rattle.label_discharge.specs.Discharge.{forbidsT, forbidsA, forbidsN, afterT, afterA, afterN, allowsTransform, allowsAggregate, dischargesA, allowsNoise, withoutT, withoutA, withoutN}
 use Rattle.label_words.specs.Stages.{one, stageCount, highest, topmost}
-use Rattle.label_words.specs.WellFormed.{digitsFit, minimumFits, wellFormed}
+use Rattle.label_words.specs.WellFormed.{digitsFit, minimumFits, smallestMinimum, wellFormedFrom, wellFormed}
 use Rattle.label_words.specs.Word.{fieldAt, bitAt, hasH, hasT, hasA, hasN, stagesOf, transformsOf, digitsOf, aggregatesOf, minimumOf, noiseOf, packed}
 use Rattle.label_laws.specs.Laws.{ComposedWellFormed, Commutative, Associative, Idempotent, ClearIsUnit, rank, ForbiddenAbove, DischargesHighest, DischargedWellFormed, NoiseClears, NoStageIsClear}
 use Rattle.label_words.specs.declared.Highest.{Highest}
@@ -59,7 +59,7 @@ compose-well-formed a b wa wb =
       transforms = rw (either-T a b, f .transforms) (bits-fit (hasT a) (hasT b) _ _ _);
       digits = rw (f .transforms, f .digits) (digits-fit (hasT a) (hasT b) (transformsOf a) (transformsOf b) (digitsOf a) (digitsOf b) (p .digits) (q .digits));
       aggregates = rw (either-A a b, f .aggregates) (bits-fit (hasA a) (hasA b) _ _ _);
-      minimum = rw (either-A a b, f .minimum) (minimum-fits (hasA a) (hasA b) (minimumOf a) (minimumOf b) (p .minimum) (q .minimum));
+      minimum = rw (either-A a b, f .minimum) (minimum-fits smallestMinimum (hasA a) (hasA b) (minimumOf a) (minimumOf b) (p .minimum) (q .minimum));
       noise = rw (either-N a b, f .noise) (bits-fit (hasN a) (hasN b) _ _ _);
     }
 
@@ -323,7 +323,7 @@ discharge-well-formed word operation measure wf = (after-T-well-formed word oper
 -- ---- clear labels
 
 pub zero-well-formed : wellFormed 0 ≡ true
-unfolding wellFormed digitsFit minimumFits fieldAt
+unfolding wellFormed wellFormedFrom digitsFit minimumFits fieldAt
 zero-well-formed = refl
 
 pub zero-count : stageCount 0 ≡ 0

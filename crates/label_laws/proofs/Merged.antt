@@ -93,9 +93,10 @@ digits-fit true false s t x y e f = e
 digits-fit false true s t x y e f = f
 digits-fit false false s t x y e f = refl
 
-pub minimum-fits : (p q : Bool) (x y : ℕ) → minimumFits p x ≡ true → minimumFits q y ≡ true → minimumFits (p || q) (merged p q (max x y) x y) ≡ true
+pub minimum-fits : (least : ℕ) (p q : Bool) (x y : ℕ) → minimumFits least p x ≡ true → minimumFits least q y ≡ true
+    → minimumFits least (p || q) (merged p q (max x y) x y) ≡ true
 unfolding minimumFits
-minimum-fits true true x y e f = max-fits 1 1023 x y e f
-minimum-fits true false x y e f = e
-minimum-fits false true x y e f = f
-minimum-fits false false x y e f = refl
+minimum-fits least true true x y e f = max-fits least 1023 x y e f
+minimum-fits least true false x y e f = e
+minimum-fits least false true x y e f = f
+minimum-fits least false false x y e f = refl

@@ -4,7 +4,7 @@ use mathlib.Core.Path.{_≡_, ap}
 use mathlib.Core.Bool.{Bool, true, false, _&&_, _||_, and-eq-true-iff, true≢false}
 use lib.Dec.{eqb, ltb, lit<}
 use borrow.Author.Tests.{eqb-true, ltb-true, lt-ltb, eq-eqb}
-use Rattle.label_words.specs.WellFormed.{reservedZero, transformFits, aggregateFits, noiseFits, digitsFit, minimumFits, wellFormed}
+use Rattle.label_words.specs.WellFormed.{reservedZero, transformFits, aggregateFits, noiseFits, digitsFit, minimumFits, smallestMinimum, wellFormedFrom, wellFormed}
 use Rattle.label_words.specs.Word.{fieldAt, bitAt, hasT, hasA, hasN, transformsOf, digitsOf, aggregatesOf, minimumOf, noiseOf}
 use Rattle.label_words.proofs.Packed.{bit-of-field}
 
@@ -19,7 +19,7 @@ pub record Parts (word : ℕ) : Type 0 where
   pub transforms : bitsFit (hasT word) (transformsOf word) ≡ true
   pub digits : digitsFit (bitAt (transformsOf word) 2) (digitsOf word) ≡ true
   pub aggregates : bitsFit (hasA word) (aggregatesOf word) ≡ true
-  pub minimum : minimumFits (hasA word) (minimumOf word) ≡ true
+  pub minimum : minimumFits smallestMinimum (hasA word) (minimumOf word) ≡ true
   pub noise : bitsFit (hasN word) (noiseOf word) ≡ true
 
 pub split-and : (a b : Bool) → (a && b) ≡ true → (a ≡ true) × (b ≡ true)
@@ -34,15 +34,15 @@ module _ (word : ℕ) where
   cut-bit = bit-of-field word 24 4 2 (lit< tt)
 
   pub parts : wellFormed word ≡ true → Parts word
-  unfolding wellFormed
+  unfolding wellFormed wellFormedFrom
   parts e =
-      let n = split-and (ltb word (2 ^ 32) && reservedZero word && transformFits word && aggregateFits word) (noiseFits word) e in
-      let a = split-and (ltb word (2 ^ 32) && reservedZero word && transformFits word) (aggregateFits word) (n .0) in
+      let n = split-and (ltb word (2 ^ 32) && reservedZero word && transformFits word && aggregateFits smallestMinimum word) (noiseFits word) e in
+      let a = split-and (ltb word (2 ^ 32) && reservedZero word && transformFits word) (aggregateFits smallestMinimum word) (n .0) in
       let t = split-and (ltb word (2 ^ 32) && reservedZero word) (transformFits word) (a .0) in
       let r = split-and (ltb word (2 ^ 32)) (reservedZero word) (t .0) in
       let z = split-and (eqb (fieldAt word 21 2) 0) (eqb (fieldAt word 13 3) 0) (r .1) in
       let ts = split-and (bitsFit (hasT word) (transformsOf word)) (digitsFit (bitAt word 26) (digitsOf word)) (t .1) in
-      let gs = split-and (bitsFit (hasA word) (aggregatesOf word)) (minimumFits (hasA word) (minimumOf word)) (a .1) in
+      let gs = split-and (bitsFit (hasA word) (aggregatesOf word)) (minimumFits smallestMinimum (hasA word) (minimumOf word)) (a .1) in
       record {
         small = ltb-true word (2 ^ 32) (r .0);
         upper = eqb-true (fieldAt word 21 2) 0 (z .0);
@@ -55,7 +55,7 @@ module _ (word : ℕ) where
       }
 
   pub whole : Parts word → wellFormed word ≡ true
-  unfolding wellFormed
+  unfolding wellFormed wellFormedFrom
   whole p =
       rw (lt-ltb word (2 ^ 32) (p .small), eq-eqb _ 0 (p .upper), eq-eqb _ 0 (p .lower), p .transforms, ← cut-bit, p .digits, p .aggregates, p .minimum, p .noise)
 

@@ -32,7 +32,7 @@ abbrev pub all : List Example → Bool
 all [] = true
 all (r ∷ rows) = r .holds && all rows
 
--- #103: "Example 5 now speaks of 20 and 19 sheets."
+-- #103: "Example 5 now speaks of 20 and 19 sheets." #107: "20000001 in example 7 moves to the ill-formed ones."
 unfoldable pub labelRows : List Example
 labelRows =
     row 1 (eqb (composed 0x20030014 0x2002001E) 0x2002001E)
@@ -46,6 +46,6 @@ labelRows =
     ∷ row 7 (not (wellFormed 0x00000001))
     ∷ row 7 (not (wellFormed 0x20030000))
     ∷ row 7 (not (wellFormed 0x44000000))
-    ∷ row 7 (wellFormed 0x20000001)
+    ∷ row 7 (not (wellFormed 0x20000001))
     ∷ row 7 (wellFormed 0x80000000)
     ∷ []

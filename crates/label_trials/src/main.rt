@@ -22,6 +22,7 @@ fn words_1() {
     word(0x00000000);
     word(0x00000001);
     word(0x20000001);
+    word(0x20000002);
     word(0x20030000);
     word(0x20030014);
     word(0x80000000);
@@ -50,13 +51,14 @@ fn words_3() {
     word(0xF4838C14);
     word(0xFF9F1BFF);
     word(0xF0000001);
+    word(0xF0000002);
     word(0x00400000);
     word(0x00200000);
     word(0x00008000);
     word(0x00004000);
     word(0x00002000);
     word(0xFFFFFFFF);
-    word(0x60000001);
+    word(0x60000002);
     word(0x30800005);
 }
 
@@ -79,7 +81,9 @@ fn compositions_2() {
     composition(0x4C000400, 0x44001800);
     composition(0x48000000, 0x44001800);
     composition(0x2001000A, 0x20020005);
+    composition(0x20000002, 0x201F03FF);
     composition(0x20000001, 0x201F03FF);
+    composition(0x20030014, 0x20020001);
     composition(0x00000001, 0x00000000);
     composition(0x00000000, 0x00000001);
     composition(0x20030000, 0x00000001);
@@ -121,12 +125,12 @@ fn aggregates_1() {
     aggregate(0x20030014, 0, 256);
     aggregate(0x20030014, 2, 256);
     aggregate(0x20030014, 4, 256);
-    aggregate(0x20100001, 4, 1);
+    aggregate(0x20100002, 4, 2);
     aggregate(0x20080002, 3, 2);
     aggregate(0x20040003, 2, 3);
     aggregate(0x64030C14, 1, 256);
     aggregate(0x80000000, 0, 9);
-    aggregate(0xA0010001, 0, 9);
+    aggregate(0xA0010002, 0, 9);
 }
 
 fn aggregates_2() {
@@ -139,7 +143,9 @@ fn aggregates_2() {
     aggregate(0x20030000, 5, 20);
     aggregate(0x201F03FF, 0, 1023);
     aggregate(0x201F03FF, 0, 1022);
-    aggregate(0x20000001, 0, 0);
+    aggregate(0x20000002, 0, 0);
+    aggregate(0x20020002, 1, 1);
+    aggregate(0x20020001, 1, 1);
 }
 
 fn noises_1() {
@@ -147,7 +153,8 @@ fn noises_1() {
     noise(0x10000000);
     noise(0x00000000);
     noise(0x20020002);
-    noise(0x20000001);
+    noise(0x20000002);
+    noise(0x30800001);
     noise(0x30820002);
     noise(0x30000200);
     noise(0x41000000);
@@ -159,7 +166,7 @@ fn noises_1() {
 fn noises_2() {
     noise(0x80000000);
     noise(0x90800000);
-    noise(0xF0000001);
+    noise(0xF0000002);
     noise(0xFF9F1BFF);
     noise(0x00800000);
     noise(0x10800001);

@@ -7,6 +7,7 @@ pub use fields::field;
 pub use test::highest_stage;
 pub use test::stage_count;
 pub use test::well_formed;
+pub use test::well_formed_from;
 
 // The highest stage present.
 pub enum Highest {

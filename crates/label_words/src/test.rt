@@ -1,7 +1,7 @@
 // The test of a word, and the stages that it has.
 ghost use mathlib.Core.Path.{_≡_};
 ghost use Rattle.label_words.specs.Stages.{stageCount, highest};
-ghost use Rattle.label_words.specs.WellFormed.{transformFits, aggregateFits, noiseFits, wellFormed};
+ghost use Rattle.label_words.specs.WellFormed.{transformFits, aggregateFits, noiseFits, wellFormedFrom, wellFormed};
 use super::Highest;
 use super::fields::bit;
 use super::fields::field;
@@ -38,11 +38,12 @@ fn transform_fits(word: u32) -> bool
         & !digits_lack
 }
 
-// The fields of stage A, likewise.
-fn aggregate_fits(word: u32) -> bool
-    ensures { λ r. ⌜ r ≡ aggregateFits word ⌝ }
+// The fields of stage A, likewise, with a smallest minimum. The stage's bit, turned round, and the minimum are one number, which is below the
+// smallest where the stage is present and the minimum too small.
+fn aggregate_fits(word: u32, least: u16) -> bool
+    ensures { λ r. ⌜ r ≡ aggregateFits least word ⌝ }
 {
-    let minimum_lacks = bit(word, 29) & (field(word, 0, 10) == 0);
+    let minimum_lacks = ((word & 0x2000_03FF) ^ 0x2000_0000) < least as u32;
     ((word & 0x001F_03FF) <= (word & 0x2000_0000)) & !minimum_lacks
 }
 
@@ -53,9 +54,19 @@ fn noise_fits(word: u32) -> bool
     (word & 0x0080_0000) <= (word & 0x1000_0000)
 }
 
+// Whether a word is a label where no group minimum is below `least`.
+pub fn well_formed_from(word: u32, least: u16) -> bool
+    ensures { λ r. ⌜ r ≡ wellFormedFrom least word ⌝ }
+{
+    ((word & 0x0060_E000) == 0)
+        & transform_fits(word)
+        & aggregate_fits(word, least)
+        & noise_fits(word)
+}
+
 // Whether a word is a label.
 pub fn well_formed(word: u32) -> bool
     ensures { λ r. ⌜ r ≡ wellFormed word ⌝ }
 {
-    ((word & 0x0060_E000) == 0) & transform_fits(word) & aggregate_fits(word) & noise_fits(word)
+    well_formed_from(word, 2)
 }

@@ -3,7 +3,7 @@ ghost use mathlib.Core.Path.{_≡_};
 ghost use Prim.Native.Nat.{_+_, _*_, _^_, _≤_, _<_};
 ghost use lib.ListN.{length};
 ghost use Rattle.input.specs.promises.Checks.{inputSays};
-ghost use Rattle.label_words.specs.WellFormed.{wellFormed};
+ghost use Rattle.label_words.specs.WellFormed.{wellFormedFrom};
 ghost use Rattle.little_endian.specs.Bytes.{numberAt};
 ghost use Rattle.table_check.specs.Checks.{checkCells, checkTable};
 ghost use Rattle.table_part.specs.TablePart.{headerFits};
@@ -40,18 +40,18 @@ fn value_fits(table: &[u8], place: usize) -> bool
 }
 
 // Whether the label at a place is well-formed.
-fn label_fits(table: &[u8], place: usize) -> bool
+fn label_fits(table: &[u8], place: usize, least: u16) -> bool
     requires { ⌜ place + 4 ≤ length (now table) ⌝ }
-    ensures { λ r. ⌜ r ≡ wellFormed (numberAt (now (table .entry)) place 4) ⌝ }
+    ensures { λ r. ⌜ r ≡ wellFormedFrom least (numberAt (now (table .entry)) place 4) ⌝ }
 {
     let field = &table[place..place + 4];
-    label::well_formed(four(field, 0))
+    label::well_formed_from(four(field, 0), least)
 }
 
 // 14 and 15: the first of so many cells whose value or label is wrong. The part begins at `at`.
-fn check_cells(table: &[u8], at: usize, count: usize) -> InputCheck
+fn check_cells(table: &[u8], at: usize, count: usize, least: u16) -> InputCheck
     requires { ⌜ (at + length (now table) < 2 ^ 64) × (length (now table) ≡ 4 + 12 * count) ⌝ }
-    ensures { λ r. ⌜ inputSays r ≡ checkCells (now (table .entry)) at 0 count ⌝ }
+    ensures { λ r. ⌜ inputSays r ≡ checkCells least (now (table .entry)) at 0 count ⌝ }
 {
     let mut cell = 0;
     while cell < count {
@@ -60,7 +60,7 @@ fn check_cells(table: &[u8], at: usize, count: usize) -> InputCheck
             return InputCheck::Refused(InputRefusal::Value(at + value_place));
         }
         let label_place = value_place + 8;
-        if !label_fits(table, label_place) {
+        if !label_fits(table, label_place, least) {
             return InputCheck::Refused(InputRefusal::Label(at + label_place));
         }
         cell += 1;
@@ -68,15 +68,15 @@ fn check_cells(table: &[u8], at: usize, count: usize) -> InputCheck
     InputCheck::Accepted
 }
 
-// 13, 14, 15 and 20 of a table part that begins at `at`.
-pub fn check_table(table: &[u8], at: u32) -> InputCheck
-    ensures { λ r. ⌜ inputSays r ≡ checkTable (now (table .entry)) at ⌝ }
+// 13, 14, 15 and 20 of a table part that begins at `at`, where no group minimum may be below `least`.
+pub fn check_table(table: &[u8], at: u32, least: u16) -> InputCheck
+    ensures { λ r. ⌜ inputSays r ≡ checkTable least (now (table .entry)) at ⌝ }
 {
     let place = at as usize;
     if !header_fits(table) {
         return InputCheck::Refused(InputRefusal::Table(place));
     }
-    let found = check_cells(table, place, cell_count(table) as usize);
+    let found = check_cells(table, place, cell_count(table) as usize, least);
     let InputCheck::Accepted = found else {
         return found;
     };

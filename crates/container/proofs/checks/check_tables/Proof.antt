@@ -12,10 +12,10 @@ use Rattle.container.proofs.checks.check_tables.Tie as tie
 use denote.Ref.{now}
 
 abbrev Inv-loop : tie.InvT-loop
-Inv-loop container count index₀ index = Tables container (partCount container) index
+Inv-loop container least count index₀ index = Tables least container (partCount container) index
 
 abbrev μ-loop : tie.MeasureT-loop
-μ-loop container count index₀ index = partCount container - index
+μ-loop container least count index₀ index = partCount container - index
 
 -- a turn of the loop, and what stands before it
 abbrev turn : tie.In-loop Inv-loop μ-loop → tie.At-loop Inv-loop μ-loop
@@ -33,14 +33,14 @@ looking c = c .before .before .before
 
 checked : (c : tie.After-check-table Inv-loop μ-loop) → let t = turn (looking c) in
     let bytes = now (start t .args .container) in
-    inputSays (c .check-table .result) ≡ checkTable (partOf bytes (t .loop .index)) (offsetOf bytes (t .loop .index))
-checked c = c .check-table .ensures ∙ ap₂ checkTable (c .before .before .part .ensures) (c .before .part-offset .ensures)
+    inputSays (c .check-table .result) ≡ checkTable (start t .args .least) (partOf bytes (t .loop .index)) (offsetOf bytes (t .loop .index))
+checked c = c .check-table .ensures ∙ ap₂ (checkTable (start (turn (looking c)) .args .least)) (c .before .before .part .ensures) (c .before .part-offset .ensures)
 
 part-count-requires : tie.Need-part-count-requires Inv-loop μ-loop
 part-count-requires c κs = search needs
 
 loop-holds : tie.Need-loop-holds Inv-loop μ-loop
-loop-holds c = begin _ _
+loop-holds c = begin _ _ _
 
 part-requires : tie.Need-part-requires Inv-loop μ-loop
 part-requires c κs = search needs

@@ -9,13 +9,13 @@ use Rattle.table_check.proofs.checking.check_cells.Tie as tie
 use denote.Ref.{now}
 
 abbrev Inv-loop : tie.InvT-loop
-Inv-loop table at count cell₀ cell = Cells table at count cell
+Inv-loop table at count least cell₀ cell = Cells least table at count cell
 
 abbrev μ-loop : tie.MeasureT-loop
-μ-loop table at count cell₀ cell = count - cell
+μ-loop table at count least cell₀ cell = count - cell
 
 loop-holds : tie.Need-loop-holds Inv-loop μ-loop
-loop-holds c = let a = c .before .args in begin (now (a .table)) (a .at) (a .count)
+loop-holds c = let a = c .before .args in begin (a .least) (now (a .table)) (a .at) (a .count)
 
 mul-value-place : tie.Need-mul-value-place Inv-loop μ-loop
 mul-value-place c = omega arith
@@ -26,8 +26,8 @@ add-value-place c = omega arith
 value-fits-requires : tie.Need-value-fits-requires Inv-loop μ-loop
 value-fits-requires c κs = omega arith
 
-add-t10 : tie.Need-add-t10 Inv-loop μ-loop
-add-t10 c = omega arith
+add-t11 : tie.Need-add-t11 Inv-loop μ-loop
+add-t11 c = omega arith
 
 returns : tie.Need-returns Inv-loop μ-loop
 returns c = wrong-value (c .before .before .before .loop .inv) (c .before .before .loop-test .taken) (sym (c .before .value-fits .ensures) ∙ not-true _ (c .if1 .taken))
@@ -38,8 +38,8 @@ add-label-place c = omega arith
 label-fits-requires : tie.Need-label-fits-requires Inv-loop μ-loop
 label-fits-requires c κs = omega arith
 
-add-t12 : tie.Need-add-t12 Inv-loop μ-loop
-add-t12 c = omega arith
+add-t13 : tie.Need-add-t13 Inv-loop μ-loop
+add-t13 c = omega arith
 
 returns-2 : tie.Need-returns-2 Inv-loop μ-loop
 returns-2 c =
@@ -72,11 +72,11 @@ check-cells-spec =
     mul-value-place
     add-value-place
     value-fits-requires
-    add-t10
+    add-t11
     returns
     add-label-place
     label-fits-requires
-    add-t12
+    add-t13
     returns-2
     add-cell
     loop-less

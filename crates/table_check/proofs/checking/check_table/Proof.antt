@@ -47,7 +47,7 @@ part c = now (c .before .before .before .before .before .args .table)
 headed : (c : tie.After-check-cells) → headerFits (part c) ≡ true
 headed c = sym (c .before .before .before .header-fits .ensures) ∙ not-false _ (c .before .before .if1 .left)
 
-cells : (c : tie.After-check-cells) → inputSays (c .check-cells .result) ≡ checkCells (part c) (c .before .before .before .before .before .args .at) 0 (cellCount (part c))
+cells : (c : tie.After-check-cells) → let a = c .before .before .before .before .before .args in inputSays (c .check-cells .result) ≡ checkCells (a .least) (part c) (a .at) 0 (cellCount (part c))
 cells c = rw (c .before .cell-count .ensures) at (c .check-cells .ensures)
 
 returns-2 : tie.Need-returns-2

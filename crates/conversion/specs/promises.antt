@@ -1,0 +1,2 @@
+-- What the functions here promise.
+pub mod Raising

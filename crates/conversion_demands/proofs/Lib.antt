@@ -1,0 +1,9 @@
+-- `AboutConversion` proves the propositions.
+mod Offsets
+mod Labels
+mod Windows
+mod TableTests
+mod Stands
+mod TableParts
+mod NewContainer
+pub mod AboutConversion
