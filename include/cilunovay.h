@@ -56,7 +56,7 @@
 #define CILUNOVAY_TOO_SHORT 1
 
 /* Refused because of the input; the place is a byte offset in the container. */
-#define CILUNOVAY_BAD_CONTAINER 11 /* its length, or the part count */
+#define CILUNOVAY_BAD_CONTAINER 11 /* its length, rule year or part count */
 #define CILUNOVAY_BAD_DIRECTORY 12 /* a pair of the directory */
 #define CILUNOVAY_BAD_TABLE 13     /* a table's header or length */
 #define CILUNOVAY_BAD_VALUE 14     /* a value out of range */
@@ -131,6 +131,11 @@ extern "C" {
  * table. The place of 22, which comes after every 21 of the same overlay, is the label:
  * one that is ill-formed, or not zero in a column of sheet numbers.
  *
+ * Byte 0 of the container is its part count and byte 1 its rule year (#108), 0 or 1:
+ * docs/CONTAINER.md has the layout. Under rule year 1 each group minimum below ten is
+ * read as ten, after the overlays are composed and before step 0; nothing else depends
+ * on it. What is released under 1 is released under 0 too, with the same rows and text.
+ *
  * Values, labels and marks are work memory: the cells of the tables that steps make,
  * and for each row its mark, which says of which ballot sheet it is.
  *
@@ -204,7 +209,8 @@ uint32_t cilunovay_check(const uint8_t *container, size_t container_length,
  *                        container is read
  *   11 to 20, offset     refused: the checks are those of cilunovay_check, with the same
  *                        numbers, places and order, but for a minimum under stage A,
- *                        which is 1 to 1,023 here and not 2 to 1,023
+ *                        which is 1 to 1,023 here and not 2 to 1,023, and for the rule
+ *                        year, which is 0 here and not 0 or 1
  *
  * What was converted is accepted by cilunovay_check. Overlays are not converted: one
  * with a minimum of 1 is refused with 22 and has to be delivered anew.

@@ -9,9 +9,9 @@
  * label that was changed to standard error, one to a line. A container without a
  * minimum of 1 comes back as it is.
  *
- * Only a container that was accepted before, when a minimum could be 1, is converted.
- * Of any other the line of the refusal goes to standard error, and nothing to standard
- * output.
+ * Only a container that was accepted before, when a minimum could be 1, is converted;
+ * its rule year is 0. Of any other the line of the refusal goes to standard error, and
+ * nothing to standard output.
  *
  * A word that begins with -- is no file; ./--name is one.
  *

@@ -17,6 +17,9 @@
 //! delivered apart as well; [`check`] does the checks of a container alone, and
 //! [`convert`] raises the group minima of 1 that an earlier container may have. All
 //! answer for every slice of bytes. Rows, columns, steps and byte offsets count from 0.
+//!
+//! Byte 1 of a container is its rule year (#108), 0 or 1. Under 1 a run reads each group
+//! minimum below ten as ten, after overlays are composed.
 
 // A program may use a part of this file.
 #![allow(dead_code)]
@@ -184,7 +187,7 @@ impl IntoIterator for Release {
 /// What is wrong with a container, or with an overlay.
 #[derive(Clone, Copy, PartialEq, Eq, Hash, Debug)]
 pub enum InputFault {
-    /// 11: its length, or the part count.
+    /// 11: its length, its rule year or its part count.
     Container,
     /// 12: a pair of the directory.
     Directory,
@@ -237,7 +240,9 @@ impl InputFault {
     /// What the fault means.
     pub fn meaning(self) -> &'static str {
         match self {
-            InputFault::Container => "the container is too long or too short, or its part count is wrong",
+            InputFault::Container => {
+                "the container is too long or too short, or its rule year or part count is wrong"
+            }
             InputFault::Directory => "the directory does not lay the parts one after the other to the end",
             InputFault::Table => "a table's header or length is wrong",
             InputFault::Value => "a value is out of range",
@@ -559,8 +564,9 @@ pub struct Conversion {
 /// ```
 ///
 /// Only a container that was accepted before is converted: the refusals, 11 to 20, are
-/// those of [`check`], but for a minimum of 1, which is none. Each lent slice has room
-/// enough, so refusal 1 does not occur. Overlays are not converted.
+/// those of [`check`], but for a minimum of 1, which is none, and for rule year 1, which
+/// is 11. Each lent slice has room enough, so refusal 1 does not occur. Overlays are not
+/// converted.
 pub fn convert(container: &[u8]) -> Result<Conversion, InputRefusal> {
     let mut converted = vec![0u8; container.len()];
     let mut offsets = vec![0u32; OFFSETS];

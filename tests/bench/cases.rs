@@ -1,6 +1,7 @@
 //! What is measured: one plan for each kind of step, a mixed one, GROUP by numbers
-//! of sheets, a full container with overlays, and releases of small and of the
-//! widest values as text, each with the same query in SQL.
+//! of sheets, a full container with overlays, a labelled table and a full container in
+//! both rule years, and releases of small and of the widest values as text, each with
+//! the same query in SQL.
 
 use crate::draft::{step, Draft, RawOverlay, RawStep, RawTable};
 use crate::reference::value::LOWEST;
@@ -17,7 +18,8 @@ const SUM: u32 = 0x2003_0002;
 
 /// Rows of the largest table.
 pub const SIZES: [usize; 3] = [16, 64, 256];
-/// Rows of the tables with sheet numbers, and of those that fill a container.
+/// Rows of the tables with sheet numbers, of those that fill a container, and of those in
+/// both rule years.
 pub const FULL: [usize; 1] = [256];
 
 pub static CASES: [Case; 10] = [
@@ -123,6 +125,15 @@ pub static OVERLAYS: [Case; 3] = [
     Case { name: "overlays, four", make: |rows| under_overlays(rows, 4) },
 ];
 
+/// The largest table with labels that the floor of the year 1 raises, scanned, and the
+/// largest mixed container, in each rule year.
+pub static YEARS: [Case; 4] = [
+    Case { name: "year 0, SCAN", make: |rows| in_year(0, labelled(rows)) },
+    Case { name: "year 1, SCAN", make: |rows| in_year(1, labelled(rows)) },
+    Case { name: "year 0, mixed", make: |rows| in_year(0, mixed(rows)) },
+    Case { name: "year 1, mixed", make: |rows| in_year(1, mixed(rows)) },
+];
+
 /// A table of 8 columns as it is; SQLite makes its text as well.
 pub static TEXTS: [Case; 2] = [
     Case {
@@ -146,13 +157,26 @@ fn scan(table: u8) -> RawStep {
 }
 
 fn draft(tables: Vec<RawTable>, steps: &[RawStep]) -> Draft {
-    let overlays = Default::default();
-    Draft { tables, steps: steps.to_vec(), draws: Vec::new(), overlays }
+    Draft { tables, steps: steps.to_vec(), ..Draft::default() }
+}
+
+fn in_year(year: u8, (draft, sql): (Draft, String)) -> (Draft, String) {
+    (Draft { year, ..draft }, sql)
+}
+
+/// A minimum of 2 in every column but the first, which alone is released.
+fn labelled(rows: usize) -> (Draft, String) {
+    let mut table = table(8, rows, 0, 0);
+    for cells in table.cells.chunks_mut(8) {
+        cells[1..].iter_mut().for_each(|cell| cell.1 = SUM);
+    }
+    let steps = [scan(0), step(5, 1, 0, 0, 0, 0)];
+    (draft(vec![table], &steps), "SELECT c0 FROM t0".into())
 }
 
 /// Most kinds of steps. The largest fills the container: 256, 256 and 168 rows of 8
-/// columns. The smallest has four keys in place of eight, so that each of its groups
-/// has two sheets.
+/// columns, and each of its groups has more than ten sheets. The smallest has four keys
+/// in place of eight, so that each of its groups has two.
 fn mixed(rows: usize) -> (Draft, String) {
     let mut third = table(8, rows * 168 / 256, 0, 0);
     let keys = 8.min(rows as i64 / 4);

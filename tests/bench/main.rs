@@ -1,7 +1,8 @@
 //! The time of the product beside that of the reference implementation and of
 //! SQLite, for each kind of step, for a mixed plan, and for the text of small
 //! and of the widest values, at three sizes; for GROUP over 256 rows by keys and
-//! sheets; and for a full container without overlays, with one and with four.
+//! sheets; for a full container without overlays, with one and with four; and for a
+//! labelled table and a full container in each rule year.
 //!
 //!     rustc -O --edition 2021 -o bench tests/bench/main.rs \
 //!         -L native=DIRECTORY -l static=LIBRARY          (and libsqlite3-dev)
@@ -17,9 +18,9 @@
 //! in the cases of text, where each value is read as text as well: there all three
 //! do the same work, and in the other rows SQLite has rows to make where product and
 //! reference have rows and text. In the cases of sheets it counts the distinct ones
-//! of each group. It knows no overlays, so that its query is the same in these three
-//! rows. The bytes are those of the container and its overlays. The means of the
-//! four sorts of rows are printed apart. Times are the best of all runs.
+//! of each group. It knows no overlays and no rule year, so that its query is the same
+//! in these rows. The bytes are those of the container and its overlays. The means of the
+//! five sorts of rows are printed apart. Times are the best of all runs.
 //! Before anything is measured the results of the three are compared, rows as
 //! sets and texts byte by byte.
 //!
@@ -53,7 +54,7 @@ mod rng;
 mod cases;
 mod sqlite;
 
-use cases::{Case, CASES, FULL, OVERLAYS, SHEETS, SIZES, TEXTS};
+use cases::{Case, CASES, FULL, OVERLAYS, SHEETS, SIZES, TEXTS, YEARS};
 use lent::{Input, Lent, NEEDED, OUTPUT};
 use reference::release::TEXT_LENGTH;
 use sqlite::Query;
@@ -88,13 +89,14 @@ enum Sort {
     Steps,
     Sheets,
     Overlays,
+    Years,
     Texts,
 }
 
 impl Sort {
     fn sizes(self) -> &'static [usize] {
         match self {
-            Sort::Sheets | Sort::Overlays => &FULL,
+            Sort::Sheets | Sort::Overlays | Sort::Years => &FULL,
             Sort::Steps | Sort::Texts => &SIZES,
         }
     }
@@ -104,8 +106,9 @@ fn cases() -> impl Iterator<Item = (&'static Case, Sort)> {
     let steps = CASES.iter().map(|case| (case, Sort::Steps));
     let sheets = SHEETS.iter().map(|case| (case, Sort::Sheets));
     let overlays = OVERLAYS.iter().map(|case| (case, Sort::Overlays));
+    let years = YEARS.iter().map(|case| (case, Sort::Years));
     let texts = TEXTS.iter().map(|case| (case, Sort::Texts));
-    steps.chain(sheets).chain(overlays).chain(texts)
+    steps.chain(sheets).chain(overlays).chain(years).chain(texts)
 }
 
 /// Reads an answer, so that no compiler leaves out the run that gave it.
@@ -239,7 +242,7 @@ fn table(milliseconds: usize) {
         "{:<18}{:>5}{:>8}{:>10}{:>11}{:>10}{:>12}{:>10}",
         "plan", "rows", "bytes", "product", "reference", "sqlite", "/reference", "/sqlite"
     );
-    let mut ratios: [[Vec<f64>; 2]; 4] = Default::default();
+    let mut ratios: [[Vec<f64>; 2]; 5] = Default::default();
     let mut growth = Vec::new();
     for (case, sort) in cases() {
         let mut times = Vec::new();
@@ -273,7 +276,8 @@ fn table(milliseconds: usize) {
     }
     println!("product and reference write the text in every row; sqlite does so only in the rows of text");
     println!();
-    for (rows, ratios) in ["", "sheets: ", "overlays: ", "text: "].iter().zip(&ratios) {
+    let names = ["", "sheets: ", "overlays: ", "years: ", "text: "];
+    for (rows, ratios) in names.iter().zip(&ratios) {
         for (name, ratios) in ["reference", "sqlite"].iter().zip(ratios) {
             let logarithms = ratios.iter().map(|ratio| ratio.ln()).sum::<f64>();
             let mean = (logarithms / ratios.len() as f64).exp();

@@ -1,6 +1,6 @@
 // The header in C++: the functions on a container without bytes, slices that are too short, the number of finished steps over slices that were
 // used before, what work memory holds afterwards, draws of several lengths, overlays that are refused and overlays in every order, the text of a
-// release in slices of several lengths, and conversions into slices of several lengths. Takes place in the folder of the trials' containers, whose
+// release in slices of several lengths, containers under every rule year, and conversions into slices of several lengths. Takes place in the folder of the trials' containers, whose
 // names stand in ../args; those of the trials with draws are in ../../noise_trials, those of the trials with overlays in ../../overlay_trials, and
 // those of the conversion in ../../convert.
 #include <cilunovay.h>
@@ -290,6 +290,47 @@ static bool overlaid()
     return number == CILUNOVAY_BAD_OVERLAY || number == CILUNOVAY_BAD_OVERLAY_LABEL ? refused_overlays(number) : any_order(number);
 }
 
+// Runs the container under a rule year.
+static std::uint32_t run_under(std::uint8_t year)
+{
+    container[1] = year;
+    return fresh_run(CILUNOVAY_TEXT);
+}
+
+// A rule year above 1: 11 at 0, and nothing lent changes.
+static bool no_year(std::uint8_t year)
+{
+    std::uint64_t checked[CILUNOVAY_CHECK_ANSWER] = {9, 9};
+
+    return run_under(year) == CILUNOVAY_BAD_CONTAINER && answers(CILUNOVAY_BAD_CONTAINER, 0, 0, 0) && work_is(USED)
+           && all<std::int64_t>(output, PATTERN) && all<std::uint32_t>(trace, USED) && holds("")
+           && cilunovay_check(container.data(), length, checked, CILUNOVAY_CHECK_ANSWER) == CILUNOVAY_BAD_CONTAINER && checked[1] == 0;
+}
+
+static bool is_of_the_input(std::uint32_t number)
+{
+    return number >= CILUNOVAY_BAD_CONTAINER && number <= CILUNOVAY_BAD_OVERLAY_LABEL;
+}
+
+// The container under both rule years: what 1 releases, 0 releases too, with the same values and text, and the input is refused alike. No other
+// year is right.
+static bool every_year()
+{
+    const std::uint32_t earlier = run_under(0);
+    const Left left;
+    const std::uint32_t floored = run_under(1);
+    const Left right;
+
+    if (floored == CILUNOVAY_RELEASED && (earlier != CILUNOVAY_RELEASED || right.written != left.written || right.characters != left.characters))
+        return false;
+    if ((is_of_the_input(earlier) || is_of_the_input(floored)) && !(right == left))
+        return false;
+    for (std::uint8_t year : {2, 3, 127, 128, 254, 255})
+        if (!no_year(year))
+            return false;
+    return true;
+}
+
 // A trial whose overlays give this number at this offset.
 static bool refuses(const char *name, std::uint32_t number, std::uint64_t offset)
 {
@@ -472,7 +513,9 @@ int main()
                    && finishes("printed_case_minimum_3", CILUNOVAY_STAGE_LEFT, 2) && finishes("r31_filter_first_row", CILUNOVAY_NOT_CLEAR, 1)
                    && finishes("r34_union_of_257", CILUNOVAY_TOO_MANY, 2) && finishes("r36_add", CILUNOVAY_OVER, 2)
                    && finishes("r37_noise_of_a_group", CILUNOVAY_NO_DRAW, 2) && finishes("input_19", CILUNOVAY_BAD_COLUMNS, 0)
-                   && finishes("input_20", CILUNOVAY_BAD_SHEETS, 0)
+                   && finishes("input_20", CILUNOVAY_BAD_SHEETS, 0) && finishes("input_11_year_2", CILUNOVAY_BAD_CONTAINER, 0)
+                   && finishes("ten_ballots_year_1", CILUNOVAY_RELEASED, 2) && finishes("nine_ballots_year_1", CILUNOVAY_STAGE_LEFT, 2)
+                   && finishes("nine_ballots", CILUNOVAY_RELEASED, 2)
                    && too_few_draws(0) && too_few_draws(1) && enough_draws(2) && enough_draws(3)
                    && refuses("x21_65537_bytes", CILUNOVAY_BAD_OVERLAY, 0) && refuses("x21_third_pair", CILUNOVAY_BAD_OVERLAY, 18)
                    && refuses("x21_in_a_later_part_before_22", CILUNOVAY_BAD_OVERLAY, 26)
@@ -480,6 +523,7 @@ int main()
                    && refuses("x22_third_overlay_before_21_of_the_fourth", CILUNOVAY_BAD_OVERLAY_LABEL, 30)
                    && each_trial("../../overlay_trials/data/", OVERLAYS, overlaid) && each_trial("", NOTHING, texts)
                    && each_trial("../../noise_trials/data/", DRAWS, texts) && each_trial("../../overlay_trials/data/", OVERLAYS, texts)
+                   && each_trial("", NOTHING, every_year) && each_trial("../../overlay_trials/data/", OVERLAYS, every_year)
                    && longest_text() && conversions()
                ? 0
                : 1;

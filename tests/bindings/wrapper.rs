@@ -144,7 +144,7 @@ fn no_bytes_at_all() {
     assert_eq!((refusal.fault, refusal.offset), (InputFault::Container, 0));
     assert_eq!(
         refusal.to_string(),
-        "refused with 11 at byte 0: the container is too long or too short, or its part count is wrong"
+        "refused with 11 at byte 0: the container is too long or too short, or its rule year or part count is wrong"
     );
     assert_eq!(Monitor::new().run(&[], &[]), Err(Refusal::Input(refusal)));
 }
@@ -396,13 +396,25 @@ fn every_other_byte_stays() {
     assert_eq!(refused, [11, 12, 13, 14, 15, 16, 17, 18, 19, 20]);
 }
 
+/// Whether a container has rule year 1, which `check` takes and `convert` does not.
+fn of_year_1(container: &[u8]) -> bool {
+    container.get(1) == Some(&1)
+}
+
+const BAD_CONTAINER: InputRefusal = InputRefusal { fault: InputFault::Container, offset: 0 };
+
 #[test]
 fn what_is_accepted_comes_back() {
+    let mut years = [0, 0];
     for (name, container) in containers() {
         if check(&container).is_ok() {
-            assert_eq!(convert(&container), Ok(Conversion { container, offsets: Vec::new() }), "{name}");
+            let year_1 = of_year_1(&container);
+            years[usize::from(year_1)] += 1;
+            let same = Conversion { container: container.clone(), offsets: Vec::new() };
+            assert_eq!(convert(&container), if year_1 { Err(BAD_CONTAINER) } else { Ok(same) }, "{name}");
         }
     }
+    assert!(years[0] > 0 && years[1] > 0);
 }
 
 #[test]
@@ -410,7 +422,8 @@ fn what_is_refused_for_another_reason_is_not_converted() {
     let mut refused = 0;
     for (name, container) in containers() {
         if let Err(refusal) = check(&container) {
-            if refusal.fault != InputFault::Label {
+            if refusal.fault != InputFault::Label || of_year_1(&container) {
+                let refusal = if of_year_1(&container) { BAD_CONTAINER } else { refusal };
                 assert_eq!(convert(&container), Err(refusal), "{name}");
                 refused += 1;
             }
@@ -425,7 +438,83 @@ fn what_is_refused_for_another_reason_is_not_converted() {
 #[test]
 fn a_container_of_a_wrong_length_is_not_converted() {
     for length in [0, 1, LONGEST_CONTAINER + 1, 2 * LONGEST_CONTAINER] {
-        let refusal = InputRefusal { fault: InputFault::Container, offset: 0 };
-        assert_eq!(convert(&vec![2; length]), Err(refusal));
+        assert_eq!(convert(&vec![2; length]), Err(BAD_CONTAINER));
+    }
+}
+
+/// The container under another rule year.
+fn under(year: u8, container: &[u8]) -> Vec<u8> {
+    let mut other = container.to_vec();
+    other[1] = year;
+    other
+}
+
+#[test]
+fn a_minimum_below_ten_is_ten_under_rule_year_1() {
+    let mut monitor = Monitor::new();
+    let (nine, ten) = (named("nine_ballots"), named("ten_ballots"));
+    assert_eq!(under(1, &nine), named("nine_ballots_year_1"));
+    assert_eq!(monitor.run(&nine, &[]).unwrap().values, [7, 36]);
+    let refusal = monitor.run(&under(1, &nine), &[]).unwrap_err();
+    assert_eq!((refusal.number(), refusal.trace()[1]), (35, line(Kind::Group, 1, 2, 1)));
+    assert_eq!(monitor.run(&ten, &[]), monitor.run(&under(1, &ten), &[]));
+    assert_eq!(monitor.run(&ten, &[]).unwrap().values, [7, 45]);
+}
+
+#[test]
+fn what_is_released_under_rule_year_1_is_released_under_0() {
+    let (mut released, mut refused) = (0, 0);
+    for (name, container) in containers() {
+        if check(&container).is_err() {
+            continue;
+        }
+        let earlier = Monitor::new().run(&under(0, &container), &[]);
+        match Monitor::new().run(&under(1, &container), &[]) {
+            Ok(release) => {
+                let earlier = earlier.unwrap();
+                assert_eq!((earlier.values, earlier.text), (release.values, release.text), "{name}");
+                released += 1;
+            }
+            Err(_) => refused += usize::from(earlier.is_ok()),
+        }
+    }
+    assert!(released > 0 && refused > 0);
+}
+
+#[test]
+fn an_overlay_s_minimum_has_the_floor_too() {
+    for (name, minimum) in [("overlay_on_clear_cells_of_nine", 10), ("overlay_above_ten_of_twelve", 12)] {
+        let mut overlaid = Overlaid::named(name);
+        let sheets = overlaid.run().unwrap().trace[0].rows;
+        overlaid.container = under(1, &overlaid.container);
+        assert_eq!(overlaid.run().is_ok(), sheets >= minimum, "{name}");
+    }
+}
+
+#[test]
+fn the_checks_are_the_same_under_both_rule_years() {
+    let mut numbers = Vec::new();
+    for (name, container) in containers() {
+        if container.len() < 2 || container[1] > 1 {
+            continue;
+        }
+        assert_eq!(check(&under(0, &container)), check(&under(1, &container)), "{name}");
+        numbers.extend(check(&container).err().map(|refusal| refusal.fault.number()));
+    }
+    numbers.sort();
+    numbers.dedup();
+    assert_eq!(numbers, [11, 12, 13, 14, 15, 16, 17, 18, 19, 20]);
+}
+
+#[test]
+fn every_other_rule_year_is_refused() {
+    let container = named("printed_case");
+    for year in 2..=255 {
+        assert_eq!(check(&under(year, &container)), Err(BAD_CONTAINER), "{year}");
+        let answer = Monitor::new().run(&under(year, &container), &[]);
+        assert_eq!(answer, Err(Refusal::Input(BAD_CONTAINER)), "{year}");
+    }
+    for year in 1..=255 {
+        assert_eq!(convert(&under(year, &container)), Err(BAD_CONTAINER), "{year}");
     }
 }

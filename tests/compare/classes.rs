@@ -5,11 +5,12 @@ use crate::damage::DAMAGES;
 use crate::overlay_classes;
 use crate::overlay_rules::RULES;
 use crate::wrong_overlays::WRONG_OVERLAYS;
+use crate::{year_classes, year_rules};
 use std::collections::HashMap;
 
-/// Those of `overlay_classes` and of `conversion_classes`, the wrong rules of
-/// `overlay_rules`, the near-valid containers of `damage` and the overlays of
-/// `wrong_overlays` are classes as well.
+/// Those of `overlay_classes`, of `conversion_classes` and of `year_classes`, the wrong
+/// rules of `overlay_rules` and of `year_rules`, the near-valid containers of `damage`
+/// and the overlays of `wrong_overlays` are classes as well.
 static CLASSES: &[&str] = &[
     "answer: released",
     "answer: 11",
@@ -531,10 +532,11 @@ static CLASSES: &[&str] = &[
 fn names() -> impl Iterator<Item = &'static str> {
     let overlays = overlay_classes::CLASSES.iter().copied();
     let conversions = conversion_classes::CLASSES.iter().copied();
-    let rules = RULES.iter().map(|rule| rule.0);
+    let rules = RULES.iter().chain(&year_rules::RULES).map(|rule| rule.0);
     let damages = DAMAGES.iter().map(|damage| damage.0);
     let wrong = WRONG_OVERLAYS.iter().map(|wrong| wrong.0);
     let all = CLASSES.iter().copied().chain(overlays).chain(conversions);
+    let all = all.chain(year_classes::names()).chain([year_rules::IN_YEAR_0]);
     all.chain(rules).chain(damages).chain(wrong)
 }
 

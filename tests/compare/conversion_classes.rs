@@ -55,6 +55,11 @@ pub static CLASSES: &[&str] = &[
     "conversion: 20",
     "conversion: 11 for 65,537 bytes, as many lent",
     "conversion: 11 for more bytes, as many lent",
+    "conversion: 11 for the year 1, accepted by the input checks",
+    "conversion: 11 for the year 1, with a minimum of 1",
+    "conversion: 11 for the year 1, refused by the input checks otherwise",
+    "conversion: 11 for a year above 1",
+    "conversion: 1 before 11 for the year 1",
     "conversion: 11 before a minimum of 1",
     "conversion: 12 before a minimum of 1",
     "conversion: 13 before a minimum of 1",
@@ -244,16 +249,31 @@ pub fn refused(
     let much = number == 11 && bytes.len() > 65_536;
     classes.hit_if(much && bytes.len() == 65_537, "conversion: 11 for 65,537 bytes, as many lent");
     classes.hit_if(much && bytes.len() > 65_537, "conversion: 11 for more bytes, as many lent");
+    match (bytes.get(1), checked) {
+        (Some(1), [0, _]) => {
+            classes.hit("conversion: 11 for the year 1, accepted by the input checks")
+        }
+        (Some(1), [15, at]) if is_one(self::at(bytes, at as usize)) => {
+            classes.hit("conversion: 11 for the year 1, with a minimum of 1")
+        }
+        (Some(1), [12..=20, _]) => {
+            classes.hit("conversion: 11 for the year 1, refused by the input checks otherwise")
+        }
+        (Some(2..), _) => classes.hit("conversion: 11 for a year above 1"),
+        _ => (),
+    }
 }
 
 /// A slice too short for a conversion that has this answer otherwise.
 pub fn short(
-    container: usize,
+    bytes: &[u8],
     [converted, offsets]: [usize; 2],
     answer: [u32; 2],
     classes: &mut Classes,
 ) {
+    let container = bytes.len();
     let few = [converted < container, offsets < OFFSETS];
+    classes.hit_if(bytes.get(1) == Some(&1), "conversion: 1 before 11 for the year 1");
     if few == [true, false] {
         let one = converted + 1 == container;
         classes.hit_if(one, "conversion: 1, one element too few for the container");

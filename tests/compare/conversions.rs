@@ -6,8 +6,8 @@ use crate::conversion_classes as classes;
 use crate::inputs::{Conversion, Given};
 use crate::lent::{first, long_enough, refill, Input, MARGIN};
 use crate::old_rule::is_one;
-use crate::reference::container::{parse_with_minima_from, Container};
-use crate::reference::conversion::OLD_SMALLEST_MINIMUM;
+use crate::reference::container::{parse_by, Container};
+use crate::reference::conversion::OLD_CHECK;
 use crate::reference::convert;
 use crate::reference::eval::evaluate;
 use crate::reference::overlay::composed;
@@ -163,7 +163,7 @@ impl Harness {
     /// The new container is past the checks and converted no further, and what a run
     /// of it releases was released before.
     fn changed(&mut self, rng: &mut Rng, given: &Given, offsets: &[usize]) -> Result<(), String> {
-        let old = parse_with_minima_from(OLD_SMALLEST_MINIMUM, &given.container);
+        let old = parse_by(&OLD_CHECK, &given.container);
         let old = old.map_err(|refusal| format!("converted in spite of {refusal:?}"))?;
         classes::changed(&given.container, &old, offsets, &mut self.classes);
         let new = self.rooms.theirs.converted[..given.container.len()].to_vec();
@@ -215,7 +215,7 @@ impl Harness {
             if refused != [1, 0] || self.made(bytes, refused)? != Err((1, 0)) {
                 return Err(format!("conversion, slices {lengths:?}: {refused:?}"));
             }
-            classes::short(bytes.len(), lengths, answer, &mut self.classes);
+            classes::short(bytes, lengths, answer, &mut self.classes);
             self.short_answer(bytes, lengths, rng.next())?;
         }
         self.short_answer(bytes, enough(rng, bytes.len()), rng.next())?;
@@ -238,14 +238,16 @@ impl Harness {
 
 /// The input checks refuse what the conversion changes, at its first label, and accept
 /// what it leaves as it is. What it refuses they refuse as well, so or at a minimum of 1
-/// that comes before.
+/// that comes before. Of the rule year 1 it refuses everything, and they do not.
 fn beside_the_check(bytes: &[u8], made: &Conversion, checked: [u32; 2]) -> Result<(), String> {
     let [number, place] = checked.map(|number| number as usize);
+    let floor = bytes.get(1) == Some(&1);
     let one = || {
         let field = bytes.get(place..place + 4);
         number == 15 && field.map_or(false, |f| is_one(u32::from_le_bytes(f.try_into().unwrap())))
     };
     let fits = match made {
+        _ if floor => *made == Err((11, 0)),
         Ok(offsets) => match offsets.first() {
             Some(&first) => (number, place) == (15, first),
             None => (number, place) == (0, 0),

@@ -1,7 +1,7 @@
 //! Near-valid containers: one thing is wrong (or two, where the order of the
 //! checks is the point), and number and place of the refusal are known.
 
-use crate::draft::{assemble, part_offset, step, Draft, RawStep, RawTable};
+use crate::draft::{part_offset, step, Draft, RawStep, RawTable};
 use crate::generate::any_step;
 use crate::labels::label;
 use crate::noise::NOISY;
@@ -26,15 +26,38 @@ pub static DAMAGES: &[Damage] = &[
     // 11
     ("11 no byte", 11, |_, _| (vec![], 0)),
     ("11 one byte", 11, |_, d| (d.bytes()[..1].to_vec(), 0)),
-    ("11 part count 0", 11, |_, d| count(d, 0)),
-    ("11 part count 1", 11, |_, d| count(d, 1)),
-    ("11 part count 10", 11, |_, d| count(d, 10)),
-    ("11 part count 65535", 11, |_, d| count(d, 65_535)),
-    ("11 part count, high byte", 11, |r, d| {
-        let parts = d.tables.len() as u16 + 1;
-        count(d, parts + 256 * (1 + r.below(255) as u16))
+    ("11 part count 0", 11, |_, d| count(d, 0, 0)),
+    ("11 part count 1", 11, |_, d| count(d, 1, 0)),
+    ("11 part count 10", 11, |_, d| count(d, 10, 0)),
+    ("11 part count 65535", 11, |_, d| count(d, 255, 255)),
+    ("11 part count 0, year 1", 11, |_, d| count(d, 0, 1)),
+    ("11 part count 1, year 1", 11, |_, d| count(d, 1, 1)),
+    ("11 part count 10, year 1", 11, |_, d| count(d, 10, 1)),
+    ("11 part count 255, year 1", 11, |_, d| count(d, 255, 1)),
+    ("11 part count and year exchanged", 11, |r, d| {
+        let parts = d.tables.len() as u8 + 1;
+        count(d, r.below(2) as u8, parts)
     }),
-    ("11 one part alone", 11, |_, d| (assemble(&d.parts()[..1]), 0)),
+    ("11 year 2", 11, |_, d| year(d, 2)),
+    ("11 year 255", 11, |_, d| year(d, 255)),
+    ("11 year, any above 1", 11, |r, d| year(d, 2 + r.below(254) as u8)),
+    ("11 year above 1, even", 11, |r, d| year(d, 2 + 2 * r.below(127) as u8)),
+    ("11 year above 1, odd", 11, |r, d| year(d, 3 + 2 * r.below(127) as u8)),
+    ("11 year above 1 and a wrong part count", 11, |r, d| {
+        let wrong = r.pick(&[0, 1, 10, 255]);
+        count(d, wrong, 2 + r.below(254) as u8)
+    }),
+    ("11 year above 1, before 12", 11, |r, d| {
+        let (mut bytes, place) = year(d, 2 + r.below(254) as u8);
+        bytes[2] ^= 1;
+        (bytes, place)
+    }),
+    ("11 year above 1, before 15 and 17", 11, |r, mut d| {
+        d.tables[0] = RawTable::new(1, vec![(3, 1)]);
+        d.steps[0] = RawStep::default();
+        year(d, 2 + r.below(254) as u8)
+    }),
+    ("11 one part alone", 11, |_, d| (d.assembled(&d.parts()[..1]), 0)),
     ("11 ten parts", 11, |_, mut d| {
         let empty = RawTable::new(1, vec![]);
         d.tables.truncate(2);
@@ -128,7 +151,7 @@ pub static DAMAGES: &[Damage] = &[
         let mut parts = d.parts();
         let last = parts.len() - 1;
         parts[1][1] = 255;
-        let mut bytes = assemble(&parts);
+        let mut bytes = d.assembled(&parts);
         bytes.pop();
         (bytes, 2 + 8 * last)
     }),
@@ -136,7 +159,7 @@ pub static DAMAGES: &[Damage] = &[
         let mut parts = d.parts();
         let last = parts.len() - 1;
         parts[1][0] = 0;
-        let mut bytes = assemble(&parts);
+        let mut bytes = d.assembled(&parts);
         bytes.pop();
         (bytes, 2 + 8 * last)
     }),
@@ -178,9 +201,10 @@ pub static DAMAGES: &[Damage] = &[
         })
     }),
     ("13 second table", 13, |_, d| {
-        let mut parts = three_parts(d).parts();
+        let d = three_parts(d);
+        let mut parts = d.parts();
         parts[2][0] = 0;
-        (assemble(&parts), part_offset(&parts, 2))
+        (d.assembled(&parts), part_offset(&parts, 2))
     }),
     ("13 in 65,536 bytes", 13, |_, d| padded(d, LONGEST)),
     ("13 before 14", 13, |_, d| {
@@ -188,7 +212,7 @@ pub static DAMAGES: &[Damage] = &[
         d.tables[1] = RawTable::new(1, vec![(HIGHEST + 1, 0)]);
         let mut parts = d.parts();
         parts[1][0] = 0;
-        (assemble(&parts), part_offset(&parts, 1))
+        (d.assembled(&parts), part_offset(&parts, 1))
     }),
     ("13 before 16", 13, |r, mut d| {
         d.steps.clear();
@@ -257,7 +281,7 @@ pub static DAMAGES: &[Damage] = &[
         d.tables[0] = RawTable::new(1, vec![(HIGHEST + 1, 0)]);
         let mut parts = d.parts();
         parts[2][0] = 0;
-        (assemble(&parts), part_offset(&parts, 1) + 4)
+        (d.assembled(&parts), part_offset(&parts, 1) + 4)
     }),
     ("14 before 16", 14, |r, mut d| {
         d.steps.clear();
@@ -404,9 +428,10 @@ pub static DAMAGES: &[Damage] = &[
         at_table(&d, 0)
     }),
     ("20 before 13 in a later table", 20, |r, d| {
-        let mut parts = three_parts(no_column(r, d)).parts();
+        let d = three_parts(no_column(r, d));
+        let mut parts = d.parts();
         parts[2][0] = 0;
-        (assemble(&parts), part_offset(&parts, 1))
+        (d.assembled(&parts), part_offset(&parts, 1))
     }),
     ("20 before 14 in a later table", 20, |r, d| {
         let mut d = three_parts(no_column(r, d));
@@ -698,20 +723,24 @@ pub fn put(bytes: &mut [u8], at: usize, number: u32) {
     bytes[at..at + 4].copy_from_slice(&number.to_le_bytes());
 }
 
-fn count(d: Draft, count: u16) -> Made {
+fn count(d: Draft, count: u8, year: u8) -> Made {
     let mut bytes = d.bytes();
-    bytes[..2].copy_from_slice(&count.to_le_bytes());
+    bytes[..2].copy_from_slice(&[count, year]);
     (bytes, 0)
+}
+
+fn year(d: Draft, year: u8) -> Made {
+    (Draft { year, ..d }.bytes(), 0)
 }
 
 /// The container made this long by its last table, whose offset is the place.
 fn padded(d: Draft, length: usize) -> Made {
     let mut parts = d.parts();
     let last = parts.len() - 1;
-    let whole = assemble(&parts).len();
+    let whole = d.assembled(&parts).len();
     let size = parts[last].len() + length.max(whole + 1) - whole;
     parts[last].resize(size, 0);
-    (assemble(&parts), part_offset(&parts, last))
+    (d.assembled(&parts), part_offset(&parts, last))
 }
 
 /// With two tables at least.
@@ -753,7 +782,7 @@ fn part(rng: &mut Rng, d: Draft, change: fn(&mut Rng, &mut Vec<u8>)) -> Made {
     let mut parts = d.parts();
     let index = 1 + rng.below(d.tables.len());
     change(rng, &mut parts[index]);
-    (assemble(&parts), part_offset(&parts, index))
+    (d.assembled(&parts), part_offset(&parts, index))
 }
 
 fn one_table(rng: &mut Rng, mut d: Draft, change: fn(&mut Rng, &mut Vec<u8>)) -> Made {
@@ -771,7 +800,7 @@ fn field(d: Draft, table: usize, change: impl FnOnce(&mut Vec<(i64, u32)>) -> us
     }
     let place = change(&mut d.tables[table].cells);
     let parts = d.parts();
-    (assemble(&parts), part_offset(&parts, table + 1) + 4 + place)
+    (d.assembled(&parts), part_offset(&parts, table + 1) + 4 + place)
 }
 
 fn value(rng: &mut Rng, d: Draft, wrong: i64) -> Made {
@@ -794,5 +823,5 @@ fn plan(d: Draft, change: impl Fn(&mut Vec<u8>)) -> Made {
     let mut parts = d.parts();
     change(&mut parts[0]);
     let offset = part_offset(&parts, 0);
-    (assemble(&parts), offset)
+    (d.assembled(&parts), offset)
 }

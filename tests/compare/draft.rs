@@ -1,10 +1,12 @@
-//! A container before it is written: tables and steps as raw fields, and the
-//! draws and overlays that are lent beside it.
+//! A container before it is written: its rule year, tables and steps as raw fields,
+//! and the draws and overlays that are lent beside it.
 
 use crate::reference::steps::Step;
 
-#[derive(Clone)]
+#[derive(Clone, Default)]
 pub struct Draft {
+    /// Byte 1.
+    pub year: u8,
     pub tables: Vec<RawTable>,
     pub steps: Vec<RawStep>,
     pub draws: Vec<i64>,
@@ -96,7 +98,14 @@ impl Draft {
     }
 
     pub fn bytes(&self) -> Vec<u8> {
-        assemble(&self.parts())
+        self.assembled(&self.parts())
+    }
+
+    /// These parts with the directory they need, in the rule year of this one.
+    pub fn assembled(&self, parts: &[Vec<u8>]) -> Vec<u8> {
+        let mut bytes = assemble(parts);
+        bytes[1] = self.year;
+        bytes
     }
 
     /// The four slices for overlays.
@@ -122,7 +131,8 @@ pub fn overlay_parts(tables: &[RawTable], labels: &RawOverlay) -> Vec<Vec<u8>> {
     tables.iter().zip(labels).map(part).collect()
 }
 
-/// A container, or an overlay, with these parts and the directory they need.
+/// A container of the rule year 0, or an overlay, with these parts and the directory
+/// they need.
 pub fn assemble(parts: &[Vec<u8>]) -> Vec<u8> {
     let mut bytes = (parts.len() as u16).to_le_bytes().to_vec();
     for (index, part) in parts.iter().enumerate() {

@@ -1,6 +1,6 @@
-//! Valid containers, with draws and overlays. A plan is made step by step over the
-//! tables that the steps so far have made, so that most plans run far and many are
-//! released.
+//! Valid containers of both rule years, with draws and overlays. A plan is made step by
+//! step over the tables that the steps so far have made, by the labels as the year reads
+//! them, so that most plans run far and many are released.
 
 use crate::draft::{step, Draft, RawStep, RawTable};
 use crate::labels::label;
@@ -12,9 +12,11 @@ use crate::reference::eval::perform;
 use crate::reference::steps::{Aggregate, Step};
 use crate::reference::table::{Cell, Table};
 use crate::reference::value::{Value, HIGHEST, LOWEST};
+use crate::reference::year::by_year;
 use crate::rng::Rng;
 use crate::scenes::{scan, scene, Scene};
 use crate::sheets::number_some;
+use crate::year_scenes;
 
 /// How the tables and the plan of one container are chosen.
 #[derive(Clone, Copy, PartialEq)]
@@ -31,15 +33,18 @@ pub enum Theme {
 }
 
 pub fn valid(rng: &mut Rng) -> Draft {
-    if rng.chance(9) {
-        return overlay_scenes::scene(rng);
+    let year = rng.chance(34) as u8;
+    match rng.below(100) {
+        0..=8 => return Draft { year, ..overlay_scenes::scene(rng) },
+        9..=21 => return year_scenes::scene(rng),
+        _ => (),
     }
-    let mut draft = if rng.chance(52) { staged(rng) } else { planned(rng) };
+    let mut draft = if rng.chance(55) { staged(rng, year) } else { planned(rng, year) };
     lend(rng, &mut draft);
     draft
 }
 
-fn planned(rng: &mut Rng) -> Draft {
+fn planned(rng: &mut Rng, year: u8) -> Draft {
     let theme = match rng.below(200) {
         0..=119 => Theme::General,
         120..=147 => Theme::Ends,
@@ -59,22 +64,22 @@ fn planned(rng: &mut Rng) -> Draft {
         90..=94 => 20 + rng.below(44),
         _ => 64,
     };
-    let mut planner = Planner::new(rng, &tables, theme, length);
+    let mut planner = Planner::new(rng, year, &tables, theme, length);
     planner.plan();
     let (steps, used) = planner.done();
-    Draft { tables, steps, draws: list(rng, used), overlays: Default::default() }
+    Draft { year, tables, steps, draws: list(rng, used), ..Draft::default() }
 }
 
 /// A container that begins with a scene; sometimes the scene comes last, as
 /// late as a plan can be.
-fn staged(rng: &mut Rng) -> Draft {
+fn staged(rng: &mut Rng, year: u8) -> Draft {
     let Scene { mut tables, steps } = scene(rng);
     if rng.chance(20) {
         number_some(rng, &mut tables, false);
     }
     let late = rng.chance(8);
     let length = if late { 64 } else { (steps.len() + rng.pick(&[0, 0, 2, 6])).min(64) };
-    let mut planner = Planner::new(rng, &tables, Theme::General, length);
+    let mut planner = Planner::new(rng, year, &tables, Theme::General, length);
     let daring = std::mem::replace(&mut planner.daring, 100);
     for (number, raw) in steps.iter().enumerate() {
         let last = number > 0 && number + 1 == steps.len();
@@ -87,14 +92,14 @@ fn staged(rng: &mut Rng) -> Draft {
     planner.daring = daring;
     planner.finish();
     let (steps, used) = planner.done();
-    Draft { tables, steps, draws: list(rng, used), overlays: Default::default() }
+    Draft { year, tables, steps, draws: list(rng, used), ..Draft::default() }
 }
 
-/// The reference's view of raw tables: those of a container with one step.
-pub fn read(tables: &[RawTable]) -> Vec<Table> {
+/// The reference's view of raw tables in a year: those of a container with one step.
+pub fn read(year: u8, tables: &[RawTable]) -> Vec<Table> {
     let (tables, steps) = (tables.to_vec(), vec![scan(0)]);
-    let draft = Draft { tables, steps, draws: vec![], overlays: Default::default() };
-    parse(&draft.bytes()).expect("generated tables are accepted").tables
+    let draft = Draft { year, tables, steps, ..Draft::default() };
+    by_year(parse(&draft.bytes()).expect("generated tables are accepted")).tables
 }
 
 fn tables(rng: &mut Rng, theme: Theme) -> Vec<RawTable> {
@@ -226,12 +231,18 @@ struct Planner<'r> {
 }
 
 impl<'r> Planner<'r> {
-    fn new(rng: &'r mut Rng, tables: &[RawTable], theme: Theme, length: usize) -> Planner<'r> {
+    fn new(
+        rng: &'r mut Rng,
+        year: u8,
+        tables: &[RawTable],
+        theme: Theme,
+        length: usize,
+    ) -> Planner<'r> {
         let daring = rng.pick(&[0, 0, 3, 30]);
         Planner {
             rng,
             theme,
-            tables: read(tables),
+            tables: read(year, tables),
             widths: tables.iter().map(|table| table.columns).collect(),
             length,
             steps: Vec::new(),

@@ -1,5 +1,5 @@
-//! What a run is given: a container, valid, valid before #107, near-valid or damaged,
-//! with draws and overlays.
+//! What a run is given: a container of one rule year or the other, valid, valid before
+//! #107, near-valid or damaged, with draws and overlays.
 
 use crate::damage::DAMAGES;
 use crate::draft::{assemble, overlay_parts, Draft, RawTable};
@@ -40,7 +40,10 @@ impl Given {
             expected: None,
             wrong: false,
             exchanged: None,
-            conversion: Some(Ok(old_rule::offsets(draft))),
+            conversion: Some(match draft.year {
+                0 => Ok(old_rule::offsets(draft)),
+                _ => Err((11, 0)),
+            }),
         }
     }
 
@@ -75,6 +78,8 @@ fn at_most(rng: &mut Rng, bytes: usize, mut draft: Draft) -> Draft {
 /// A container that was accepted before #107, mostly, and is refused with 15 until it
 /// is converted.
 fn stored(rng: &mut Rng, mut draft: Draft) -> Given {
+    // A few have a rule year, which no container had then.
+    draft.year = rng.chance(15) as u8;
     match rng.below(100) {
         0..=1 => with_ones(old_rule::fullest(rng)),
         2..=11 => sheet_with_one(rng, draft),
@@ -89,7 +94,11 @@ fn stored(rng: &mut Rng, mut draft: Draft) -> Given {
 
 fn with_ones(draft: Draft) -> Given {
     let first = old_rule::offsets(&draft)[0];
-    Given { expected: Some(("15 minimum 1, until converted", 15, first)), ..Given::of(&draft) }
+    let class = match draft.year {
+        0 => "15 minimum 1, until converted",
+        _ => "15 minimum 1 in the year 1, not converted",
+    };
+    Given { expected: Some((class, 15, first)), ..Given::of(&draft) }
 }
 
 /// Refused with 21 or 22 once it is converted.
@@ -104,6 +113,7 @@ fn stored_with_wrong_overlay(rng: &mut Rng, draft: Draft) -> Given {
 
 /// A label with minimum 1 on a sheet number, which was refused before as well.
 fn sheet_with_one(rng: &mut Rng, draft: Draft) -> Given {
+    let draft = Draft { year: 0, ..draft };
     let given = Given::of(&draft);
     let spoiled = sheet(rng, draft, Row::Any, |_, cell| cell.1 = 0x2001_0001);
     let ((bytes, field), part) = (spoiled.at_cell(8), spoiled.at_part().1);
@@ -132,12 +142,13 @@ fn near_valid(rng: &mut Rng, draft: Draft) -> Given {
         old_rule::put(rng, &mut draft);
     }
     let (class, number, make) = DAMAGES[rng.below(DAMAGES.len())];
+    let year = draft.year;
     let (bytes, offset) = make(rng, draft);
     Given {
         container: bytes,
         expected: if ones { None } else { Some((class, number, offset)) },
         exchanged: None,
-        conversion: Some(Err((number, offset))),
+        conversion: Some(Err(if year == 0 { (number, offset) } else { (11, 0) })),
         ..given
     }
 }

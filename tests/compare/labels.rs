@@ -41,7 +41,7 @@ pub fn label(rng: &mut Rng, rows: usize) -> u32 {
         word |= match rng.below(10) {
             0..=5 => rng.pick(&[2, 2, 3]),
             6 | 7 => (rows as u32).clamp(2, 256),
-            8 => rng.pick(&[2, 255, 256, 257, 513, 769, 1022, 1023]),
+            8 => rng.pick(&[2, 9, 10, 11, 255, 256, 257, 513, 769, 1022, 1023]),
             _ => rng.below(1022) as u32 + 2,
         };
     }
@@ -71,6 +71,10 @@ enum Lacks {
 impl Lock {
     pub fn any(&self) -> bool {
         self.h || self.t || self.a || self.n.is_some()
+    }
+
+    pub fn by_a(&self) -> bool {
+        self.a
     }
 
     /// The class of a pair that differs in such a cell, which an overlay locks and

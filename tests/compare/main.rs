@@ -6,26 +6,28 @@
 //!     compare SEED COUNT          COUNT containers from SEED
 //!     compare SEED COUNT INDEX    of these only the one numbered INDEX
 //!
-//! For each container, with a list of draws and with overlays or without: the
-//! answers are equal, and so is every element of the lent slices at the end, which
-//! begin with a known pattern and have a margin behind them; what may change has
-//! changed and nothing else; containers and overlays made to be refused are refused
-//! with the number and the place they were made for; two containers that differ
-//! only in locked cells give the same answer and the same contents, and so do other
-//! draws behind those that the plan uses, overlays in another order, one more of
-//! zero labels, and the same labels divided otherwise among the container and its
-//! overlays; what is released with overlays is released without them; the text of a
-//! release reads back as its rows, and with too little room for it the release is
-//! refused with 51; slices too short are refused with 1 and unchanged, those for the
-//! answer too; the product's input checks answer as the reference's do; where no
-//! table has sheet numbers, none is scanned twice and none is joined, the answer is
-//! that of the rule that counts rows.
+//! For each container, of one rule year or the other, with a list of draws and with
+//! overlays or without: the answers are equal, and so is every element of the lent
+//! slices at the end, which begin with a known pattern and have a margin behind them;
+//! what may change has changed and nothing else; containers and overlays made to be
+//! refused are refused with the number and the place they were made for; two containers
+//! of one year that differ only in locked cells give the same answer and the same
+//! contents, and so do other draws behind those that the plan uses, overlays in another
+//! order, one more of zero labels, and the same labels divided otherwise among the
+//! container and its overlays; what is released with overlays is released without them,
+//! and what is released in the year 1 is released in the year 0; with the floor written
+//! into its labels a container answers in the year 0 as it did in the year 1; the input
+//! checks answer alike in both; the text of a release reads back as its rows, and with
+//! too little room for it the release is refused with 51; slices too short are refused
+//! with 1 and unchanged, those for the answer too; the product's input checks answer as
+//! the reference's do; where no table has sheet numbers, none is scanned twice and none
+//! is joined, the answer is that of the rule that counts rows.
 //!
 //! Each container is converted as well, and what is lent for that is compared in the
 //! same way: labels change where they were made to, from 1 to 2, or the refusal is that
-//! of the old check; the input checks refuse what is changed, and accept what is not and
-//! what came out; a run of the new container is past the input checks, and releases
-//! nothing but what the old rule released.
+//! of the old check, 11 for every container of the year 1; the input checks refuse what is
+//! changed, and accept what is not and what came out; a run of the new container is past
+//! the input checks, and releases nothing but what the old rule released.
 //!
 //! Prints how often each class occurred. The exit status is 1 after a
 //! difference, or if some class never occurred (not asked for a single INDEX).
@@ -67,6 +69,10 @@ mod texts;
 mod wrong_overlays;
 mod wrong_sheets;
 mod wrong_steps;
+mod year_classes;
+mod year_rules;
+mod year_scenes;
+mod years;
 
 use classes::Classes;
 use conversions::Rooms;
@@ -77,9 +83,10 @@ use overlay_labels::Layers;
 use product::by_reference;
 use reference::container::{parse, Container};
 use reference::eval::evaluate;
-use reference::overlay::composed;
 use reference::release::released;
+use reference::RuleYear;
 use rng::Rng;
+use years::Accepted;
 
 fn main() {
     let arguments: Vec<u64> =
@@ -147,13 +154,14 @@ impl Harness {
         let bytes = input.container;
         let pattern = rng.next();
         let plain = parse(bytes);
-        let prepared = plain.clone().and_then(|plain| composed(plain, &input.overlays));
+        let accepted = plain.clone().and_then(|plain| Accepted::new(plain, &input.overlays));
         let (finished, length) =
-            prepared.as_ref().map_or((0, 0), |container| outlook(container, input.draws));
+            accepted.as_ref().map_or((0, 0), |accepted| outlook(&accepted.read, input.draws));
         let room = texts::enough(rng, length);
         let lengths = long_enough(rng);
         let answer = self.both(input, lengths, room, pattern)?;
         self.classes.hit(number_class(answer[0]));
+        year_classes::answered(bytes, answer[0], &mut self.classes);
         let begun = answer[0] == 0 || answer[0] >= 31;
         self.classes.hit_if(begun && lengths[2] == MARKS, "run in 1,024 marks");
         self.classes.hit_if(begun && lengths[2] > MARKS, "run in more than 1,024 marks");
@@ -174,26 +182,29 @@ impl Harness {
             return Err(format!("check: reference {expected:?}, product {found:?}"));
         }
         self.classes.hit(if found[0] == 0 { "check: accepted" } else { "check: refused" });
+        self.checked_in_both_years(rng, bytes, found)?;
         if let Some(what) = self.ours.breach(&self.before, answer, finished) {
             return Err(what);
         }
-        match (&plain, &prepared) {
-            (Ok(plain), Ok(container)) => {
+        match (&plain, &accepted) {
+            (Ok(_), Ok(accepted)) => {
                 if answer[0] == 0 {
                     self.text(answer, room)?;
                 }
-                self.accepted(rng, input, plain, container, answer, finished)?;
+                self.accepted(rng, input, accepted, answer, finished)?;
             }
             (Ok(plain), Err(refusal)) if refusal.fault.number() == answer[0] => {
                 overlay_classes::refused(plain, &input.overlays, &mut self.classes);
                 self.unused(rng, input, answer, 0)?;
                 self.zeros_added(rng, input, plain, answer)?;
+                self.refused_in_both_years(rng, input, answer)?;
                 self.exchanged(rng, given)?;
             }
             (Err(refusal), _) if refusal.fault.number() == answer[0] => {
                 overlay_classes::refused_before(given, answer, &mut self.classes);
                 self.unused(rng, input, answer, 0)?;
                 self.unread(rng, input, answer)?;
+                self.refused_in_both_years(rng, input, answer)?;
             }
             _ => return Err("check and run differ".into()),
         }
@@ -203,38 +214,48 @@ impl Harness {
         self.conversion(rng, given, found, plain.as_ref().ok())
     }
 
-    /// A run that was evaluated; `container` has the composed labels.
+    /// A run that was evaluated.
     fn accepted(
         &mut self,
         rng: &mut Rng,
         input: Input,
-        plain: &Container,
-        container: &Container,
+        accepted: &Accepted,
         answer: [u32; 4],
         finished: usize,
     ) -> Result<(), String> {
+        let Accepted { plain, composed, read } = accepted;
         let kept = self.theirs.kept(answer, finished);
-        let mut seen = observe::observe(input, plain, container, &mut self.classes);
-        seen.sheets_decide = rules::sheets_decide(container, input.draws, &mut self.classes);
+        let mut seen = observe::observe(input, plain, read, &mut self.classes);
+        seen.sheets_decide = rules::sheets_decide(read, input.draws, &mut self.classes);
         let layers = Layers::new(plain, &input.overlays);
         let release = answer[0] == 0;
-        overlay_classes::accepted(&input.overlays, &layers, container, release, &mut self.classes);
+        overlay_classes::accepted(&input.overlays, &layers, composed, release, &mut self.classes);
+        year_classes::accepted(input.container, accepted, &layers, answer[0], &mut self.classes);
+        year_classes::groups(accepted, input.draws, &mut self.classes);
+        let floor = read.year == RuleYear::Floor;
+        let sheets = floor && seen.sheets_decide;
+        self.classes.hit_if(sheets, "year 1: the sheets decide, not the rows");
         // All the small ones, and some of the others, for the time that it takes.
-        let small = container.tables.iter().all(|table| table.cells.len() < 40);
-        if layers.lent().next().is_some() && (small || rng.chance(15)) {
-            overlay_rules::tell_apart(container, &layers, input.draws, &mut self.classes);
+        let small = |cells: usize| read.tables.iter().all(|table| table.cells.len() < cells);
+        if layers.lent().next().is_some() && (small(40) || rng.chance(15)) {
+            overlay_rules::tell_apart(composed, &layers, input.draws, &mut self.classes);
         }
-        self.as_rows(input, container, answer, &seen)?;
-        self.locked(rng, input, &layers, container, answer, &seen)?;
+        if small(80) || rng.chance(60) {
+            year_rules::tell_apart(accepted, &layers, input.draws, &mut self.classes);
+        }
+        self.as_rows(input, read, answer, &seen)?;
+        self.locked(rng, input, &layers, read, answer, &seen)?;
         self.unused(rng, input, answer, seen.used)?;
         self.other_order(rng, input, answer)?;
         self.zeros_added(rng, input, plain, answer)?;
-        self.divided_otherwise(rng, input, container, answer)?;
+        self.divided_otherwise(rng, input, accepted, answer)?;
+        self.floor_written(rng, input, accepted, answer)?;
         if release {
-            self.unlocked(rng, input, container, answer)?;
-            self.no_room(rng, input, &layers, container, answer, &seen)?;
+            self.unlocked(rng, input, read, answer)?;
+            self.no_room(rng, input, &layers, read, answer, &seen)?;
         }
-        self.without(rng, input, container.plan.len(), answer, &kept)
+        self.without(rng, input, read.plan.len(), answer, &kept)?;
+        self.in_year_0(rng, input, accepted, &layers, answer, &kept)
     }
 
     /// A base container, of before #103, answers as it did then.
@@ -334,13 +355,15 @@ impl Harness {
             return Err(format!("51: {what}"));
         }
         self.classes.hit(number_class(answer[0]));
+        year_classes::answered(input.container, answer[0], &mut self.classes);
         texts::refused(release, steps, room, &mut self.classes);
         self.classes.hit_if(layers.lent().next().is_some(), "overlays: 51");
-        self.locked(rng, input, layers, container, answer, seen)
+        self.locked(rng, input, layers, container, answer, seen).map(|_| ())
     }
 
-    /// Demand 3: the same container with other values in its locked cells, by the
-    /// composed labels, and the same draws and overlays.
+    /// Demand 3: the same container, of the same rule year, with other values in its
+    /// locked cells, by the composed labels, and the same draws and overlays. Answers
+    /// whether there are such cells.
     fn locked(
         &mut self,
         rng: &mut Rng,
@@ -349,12 +372,12 @@ impl Harness {
         container: &Container,
         answer: [u32; 4],
         seen: &Seen,
-    ) -> Result<(), String> {
+    ) -> Result<bool, String> {
         let mut cells = labels::labelled_cells(input.container, container);
         cells.retain(|(_, _, lock, _)| lock.any());
         if cells.is_empty() {
             self.classes.hit("no locked cell");
-            return Ok(());
+            return Ok(false);
         }
         let mut other = input.container.to_vec();
         let all = rng.chance(70);
@@ -366,6 +389,7 @@ impl Harness {
                 self.classes.hit(lock.class());
                 by_overlay |=
                     overlay_classes::pair(layers, container, place, lock, &mut self.classes);
+                year_classes::locked(layers, container, place, lock, &mut self.classes);
             }
         }
         let other = Input { container: &other, ..input };
@@ -389,14 +413,23 @@ impl Harness {
         let released = answer[0] == 0;
         self.classes.hit_if(by_overlay && released, "pair: an overlay alone locks, released");
         self.classes.hit_if(by_overlay && !released, "pair: an overlay alone locks, refused");
+        year_classes::pair(
+            container.year,
+            answer[0],
+            by_overlay,
+            numbered,
+            seen,
+            &mut self.classes,
+        );
         if let Ok(plain) = parse(other.container) {
-            let container = composed(plain.clone(), &other.overlays).expect("the same overlays");
-            let second = observe::observe(other, &plain, &container, &mut self.scratch);
+            let Accepted { plain, read, .. } =
+                Accepted::new(plain, &other.overlays).expect("the same overlays");
+            let second = observe::observe(other, &plain, &read, &mut self.scratch);
             let by_draw = second.over_by_draw != seen.over_by_draw;
             self.classes.hit_if(second.over != seen.over, "pair: OVER made in one of the two");
             self.classes.hit_if(by_draw, "pair: OVER made by a draw in one of the two");
         }
-        Ok(())
+        Ok(true)
     }
 
     /// The other direction: N with its bit set is no lock in a plan with a NOISE.

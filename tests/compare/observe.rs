@@ -35,7 +35,15 @@ pub struct Seen {
     pub sheets_decide: bool,
 }
 
-/// `plain` is the container without its overlays, `container` the one with them.
+impl Seen {
+    /// T was discharged, then A, then N.
+    pub fn whole_chain(&self) -> bool {
+        self.chain == 3
+    }
+}
+
+/// `plain` is the container without its overlays, `container` the one that the plan
+/// reads.
 pub fn observe(
     input: Input,
     plain: &Container,
@@ -710,7 +718,7 @@ fn released(container: &Container, last: &Table, seen: &Seen, classes: &mut Clas
     classes.hit_if(seen.discharged_t && seen.discharged_a, "released: T and A discharged");
     classes.hit_if(seen.discharged_n, "released: N discharged");
     classes.hit_if(seen.short_chain == 2, "released: A, then N discharged");
-    classes.hit_if(seen.chain == 3, "released: T, then A, then N discharged");
+    classes.hit_if(seen.whole_chain(), "released: T, then A, then N discharged");
     classes.hit_if(seen.noises > 1, "released: two NOISE");
     classes.hit_if(seen.over_by_draw, "released: an OVER by a draw on the way");
     classes.hit_if(last.rows() == 0, "released: 0 rows");

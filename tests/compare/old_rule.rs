@@ -110,7 +110,7 @@ pub fn single_ballots(rng: &mut Rng) -> Draft {
     table.cells.iter_mut().skip(VALUE).step_by(columns).for_each(|cell| cell.1 = word);
     let steps = [vec![scan(0)], between(rng), vec![group(1, aggregate, VALUE)]].concat();
     let draws = (0..80).map(|_| rng.between(-20, 20)).collect();
-    Draft { tables: vec![table], steps, draws, overlays: Default::default() }
+    Draft { tables: vec![table], steps, draws, ..Draft::default() }
 }
 
 /// As many cells as a container holds, in 65,534 bytes; each with a minimum of 1.
@@ -120,7 +120,7 @@ pub fn fullest(rng: &mut Rng) -> Draft {
         RawTable::new(8, (0..8 * rows).map(cell).collect())
     });
     let steps = vec![scan(rng.below(3) as u8)];
-    Draft { tables: tables.to_vec(), steps, draws: vec![], overlays: Default::default() }
+    Draft { tables: tables.to_vec(), steps, ..Draft::default() }
 }
 
 /// Where the labels with a minimum of 1 stand in the container of a draft.
@@ -142,7 +142,7 @@ pub fn offsets_in(bytes: &[u8]) -> Vec<usize> {
         Some(field) => u32::from_le_bytes(field.try_into().unwrap()),
         None => 0,
     };
-    let count = (number(0) & 0xFFFF) as usize;
+    let count = (number(0) & 0xFF) as usize;
     let mut found = Vec::new();
     for pair in (1..count.min(9)).map(|part| 2 + 8 * part) {
         let start = number(pair) as usize;

@@ -9,13 +9,14 @@ use crate::lent::{long_enough, Input, Kept};
 use crate::overlay_labels::{labels, words, written, zeros};
 use crate::overlays::divided;
 use crate::reference::container::{parse, Container};
-use crate::reference::overlay::composed;
+use crate::reference::year::{RuleYear, FLOOR};
 use crate::reference::Overlays;
 use crate::rng::Rng;
 use crate::sheets::shuffle;
+use crate::years::Accepted;
 use crate::{texts, Harness};
 
-const NONE: Overlays = [&[]; 4];
+pub const NONE: Overlays = [&[]; 4];
 
 const ZEROS_IN: [&str; 4] = [
     "zero labels added: slice 0",
@@ -101,13 +102,16 @@ impl Harness {
         &mut self,
         rng: &mut Rng,
         input: Input,
-        container: &Container,
+        accepted: &Accepted,
         answer: [u32; 4],
     ) -> Result<(), String> {
         if rng.chance(75) {
             return Ok(());
         }
-        let whole = words(&labels(container));
+        let container = &accepted.read;
+        let mut whole = words(&labels(&accepted.composed));
+        let floor = container.year == RuleYear::Floor;
+        let others = floor && rng.chance(50) && other_minima(rng, &mut whole);
         let count = 1 + rng.below(4);
         let mut parts = divided(rng, &whole, count);
         let own = parts.remove(0);
@@ -128,8 +132,8 @@ impl Harness {
         overlays.iter_mut().zip(&written).for_each(|(slice, overlay)| *slice = overlay);
         shuffle(rng, &mut overlays);
         let other = Input { container: &bytes, overlays, ..input };
-        let second = parse(&bytes).and_then(|plain| composed(plain, &overlays));
-        match second.map(|second| labels(&second) == labels(container)) {
+        let second = parse(&bytes).and_then(|plain| Accepted::new(plain, &overlays));
+        match second.map(|second| labels(&second.read) == labels(container)) {
             Ok(true) => (),
             Ok(false) => return Err("divided labels do not compose to the same".into()),
             Err(refusal) => return Err(format!("divided labels: {refusal:?}")),
@@ -144,12 +148,13 @@ impl Harness {
         let plain = parse(input.container).map(|plain| words(&labels(&plain)) == own);
         self.classes.hit_if(plain == Ok(false), "divided otherwise: other labels in the container");
         self.classes.hit_if(changed, "divided otherwise: other values in locked cells");
+        self.classes.hit_if(floor, "divided otherwise: in the year 1");
+        self.classes.hit_if(others, "divided otherwise: other minima below ten");
         Ok(())
     }
 
     /// "If a run with overlays releases, the run without them releases the same
-    /// rows." More than that: labels decide 31, 32, 33 and 35 alone, so that every
-    /// other answer stays, and no step is refused that was finished.
+    /// rows."
     pub fn without(
         &mut self,
         rng: &mut Rng,
@@ -162,25 +167,9 @@ impl Harness {
             return Ok(());
         }
         let other = Input { overlays: NONE, ..input };
-        let second = self.both(other, long_enough(rng), texts::LONGEST, rng.next())?;
-        let finished = |answer: [u32; 4]| match answer[0] {
-            0 => steps,
-            _ => answer[1] as usize,
-        };
-        if finished(second) < finished(answer) {
-            return Err(format!("{answer:?}, without overlays {second:?}"));
-        }
-        let left = self.theirs.kept(second, finished(second));
-        // Kind, rows and columns are the same, and no stage is left that was not.
-        for (one, two) in kept.lines.chunks(4).zip(left.lines.chunks(4)) {
-            if one[..3] != two[..3] || one[3] < two[3] {
-                return Err(format!("trace line {one:?}, without overlays {two:?}"));
-            }
-        }
-        let by_labels = matches!(answer[0], 31 | 32 | 33 | 35);
-        if !by_labels && (second != answer || left.rows != kept.rows || left.text != kept.text) {
-            return Err(format!("{answer:?}, without overlays {second:?} or other contents"));
-        }
+        let (second, _) = self
+            .less_strict(rng, other, steps, answer, kept)
+            .map_err(|what| format!("without overlays: {what}"))?;
         self.classes.hit(match (answer[0], second[0]) {
             (0, _) => "overlays: the same answer without them, released",
             (34, _) => "overlays: the same answer without them, 34",
@@ -195,6 +184,40 @@ impl Harness {
             _ => "overlays: refused at another place of the same step",
         });
         Ok(())
+    }
+
+    /// The same run under labels that are no stricter: what it released is released,
+    /// the same rows and the same text. More than that: labels decide 31, 32, 33 and 35
+    /// alone, so that every other answer stays, and no step is refused that was
+    /// finished. Answers what the second run answers, and what it has written.
+    pub fn less_strict(
+        &mut self,
+        rng: &mut Rng,
+        other: Input,
+        steps: usize,
+        answer: [u32; 4],
+        kept: &Kept,
+    ) -> Result<([u32; 4], Kept), String> {
+        let second = self.both(other, long_enough(rng), texts::LONGEST, rng.next())?;
+        let finished = |answer: [u32; 4]| match answer[0] {
+            0 => steps,
+            _ => answer[1] as usize,
+        };
+        if (1..31).contains(&second[0]) || finished(second) < finished(answer) {
+            return Err(format!("{answer:?}, then {second:?}"));
+        }
+        let left = self.theirs.kept(second, finished(second));
+        // Kind, rows and columns are the same, and no stage is left that was not.
+        for (one, two) in kept.lines.chunks(4).zip(left.lines.chunks(4)) {
+            if one[..3] != two[..3] || one[3] < two[3] {
+                return Err(format!("trace line {one:?}, then {two:?}"));
+            }
+        }
+        let by_labels = matches!(answer[0], 31 | 32 | 33 | 35);
+        if !by_labels && (second != answer || left.rows != kept.rows || left.text != kept.text) {
+            return Err(format!("{answer:?}, then {second:?} or other contents"));
+        }
+        Ok((second, left))
     }
 
     /// Of two wrong overlays the other one is told when they are exchanged.
@@ -232,8 +255,21 @@ impl Harness {
     }
 }
 
+/// Other minima where the floor reads ten; whether there are any.
+fn other_minima(rng: &mut Rng, labels: &mut RawOverlay) -> bool {
+    let mut changed = false;
+    for word in labels.iter_mut().flatten() {
+        let minimum = *word & 0x3FF;
+        if (2..=FLOOR as u32).contains(&minimum) {
+            *word = *word - minimum + 2 + rng.below(9) as u32;
+            changed |= *word & 0x3FF != minimum;
+        }
+    }
+    changed
+}
+
 /// Gives the cells of an accepted container these labels.
-fn put_labels(bytes: &mut [u8], labels: &RawOverlay) {
+pub fn put_labels(bytes: &mut [u8], labels: &RawOverlay) {
     for (table, words) in labels.iter().enumerate() {
         let pair = 2 + 8 * (table + 1);
         let start = u32::from_le_bytes(bytes[pair..pair + 4].try_into().unwrap()) as usize + 4;

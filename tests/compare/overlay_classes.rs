@@ -9,7 +9,7 @@ use crate::reference::container::{Container, InputFault, InputRefusal};
 use crate::reference::label::{Grouping, Label, Transform};
 use crate::reference::overlay::composed;
 use crate::reference::steps::Step;
-use crate::reference::Overlays;
+use crate::reference::{Overlays, RuleYear};
 
 pub static CLASSES: &[&str] = &[
     "answer: 21",
@@ -173,7 +173,8 @@ pub static CLASSES: &[&str] = &[
     "22 with a long text slice",
 ];
 
-fn scans(container: &Container, table: usize) -> usize {
+/// How often a plan scans this table.
+pub fn scans(container: &Container, table: usize) -> usize {
     let scan = |step: &&Step| matches!(step, Step::Scan { table: scanned } if *scanned == table);
     container.plan.iter().filter(scan).count()
 }
@@ -407,6 +408,12 @@ pub fn refused(container: &Container, overlays: &Overlays, classes: &mut Classes
 /// Where 21 is.
 fn fit_place(container: &Container, overlay: &[u8], offset: usize, classes: &mut Classes) {
     let tables = container.tables.len();
+    if overlay.starts_with(&[tables as u8, 1]) {
+        classes.hit(match container.year {
+            RuleYear::Earlier => "21 count, high byte 1, for the year 0",
+            RuleYear::Floor => "21 count, high byte 1, for the year 1",
+        });
+    }
     if offset < 2 + 8 * tables {
         classes.hit(match (offset, offset / 8 + 1 == tables) {
             (0, _) => "21 at 0",

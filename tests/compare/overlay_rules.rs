@@ -8,17 +8,18 @@ use crate::reference::container::Container;
 use crate::reference::eval::{evaluate, StateRefusal};
 use crate::reference::label::{Grouping, Label, Transform};
 use crate::reference::value::Value;
+use crate::reference::year::by_year;
 
 /// A cell of a table with so many columns and rows.
 #[derive(Clone, Copy)]
 pub struct Place {
-    table: usize,
-    cell: usize,
-    columns: usize,
-    rows: usize,
+    pub table: usize,
+    pub cell: usize,
+    pub columns: usize,
+    pub rows: usize,
 }
 
-/// The label that a cell gets.
+/// The label that a cell gets, before the floor of its rule year.
 pub type Rule = fn(&Layers, Place) -> Label;
 
 pub static RULES: [(&str, Rule); 20] = [
@@ -116,15 +117,15 @@ pub static RULES: [(&str, Rule); 20] = [
 ];
 
 impl Layers {
-    fn own(&self, at: Place) -> Label {
+    pub fn own(&self, at: Place) -> Label {
         self.own[at.table][at.cell]
     }
 
-    fn all(&self, at: Place) -> impl Iterator<Item = Label> + '_ {
+    pub fn all(&self, at: Place) -> impl Iterator<Item = Label> + '_ {
         self.on(at.table, at.cell)
     }
 
-    fn right(&self, at: Place) -> Label {
+    pub fn right(&self, at: Place) -> Label {
         self.all(at).fold(self.own(at), |label, other| label.compose(&other))
     }
 
@@ -166,14 +167,15 @@ fn united(one: Label, two: Label) -> Label {
 /// The values released, or the refusal.
 type Outcome = Result<Vec<Value>, StateRefusal>;
 
-fn outcome(container: &Container, draws: &[i64]) -> Outcome {
+pub fn outcome(container: &Container, draws: &[i64]) -> Outcome {
     let table = evaluate(container, draws).outcome?;
     Ok(table.cells.iter().map(|cell| cell.value).collect())
 }
 
 /// Which rules would answer otherwise; `container` has the composed labels.
 pub fn tell_apart(container: &Container, layers: &Layers, draws: &[i64], classes: &mut Classes) {
-    let right = outcome(container, draws);
+    let outcome = |container: &Container| outcome(&by_year(container.clone()), draws);
+    let right = outcome(container);
     let labels: Grids = labels(container);
     for &(class, rule) in &RULES {
         let mut wrong = container.clone();
@@ -185,6 +187,6 @@ pub fn tell_apart(container: &Container, layers: &Layers, draws: &[i64], classes
                 differs |= content.label != *right;
             }
         }
-        classes.hit_if(differs && outcome(&wrong, draws) != right, class);
+        classes.hit_if(differs && outcome(&wrong) != right, class);
     }
 }

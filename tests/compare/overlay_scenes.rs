@@ -9,6 +9,7 @@ use crate::overlays::{divided, one_on_top, placed, put_labels, zeros};
 use crate::rng::Rng;
 use crate::scenes::{clear, keep, noise, scan};
 use crate::sheet_scenes::{ballots, between, group, sheets_of_key_0, KEY, VALUE};
+use crate::year_scenes::or_about_ten;
 
 const SCENES: [fn(&mut Rng) -> Draft; 17] = [
     minima,
@@ -34,18 +35,18 @@ pub fn scene(rng: &mut Rng) -> Draft {
     SCENES[rng.below(SCENES.len())](rng)
 }
 
-fn draft(
+pub fn draft(
     rng: &mut Rng,
     tables: Vec<RawTable>,
     steps: Vec<RawStep>,
     overlays: Vec<RawOverlay>,
 ) -> Draft {
-    let draws = (0..80).map(|_| rng.between(-20, 20)).collect();
-    Draft { tables, steps, draws, overlays: placed(rng, overlays) }
+    let draws = (0..120).map(|_| rng.between(-20, 20)).collect();
+    Draft { tables, steps, draws, overlays: placed(rng, overlays), ..Draft::default() }
 }
 
 /// An overlay of labels in one column of table 0.
-fn in_column(tables: &[RawTable], column: usize, mut label: impl FnMut() -> u32) -> RawOverlay {
+pub fn in_column(tables: &[RawTable], column: usize, mut label: impl FnMut() -> u32) -> RawOverlay {
     let mut overlay = zeros(tables);
     for word in overlay[0].iter_mut().skip(column).step_by(tables[0].columns) {
         *word = label();
@@ -53,7 +54,7 @@ fn in_column(tables: &[RawTable], column: usize, mut label: impl FnMut() -> u32)
     overlay
 }
 
-fn put(table: &mut RawTable, column: usize, word: u32) {
+pub fn put(table: &mut RawTable, column: usize, word: u32) {
     let columns = table.columns;
     table.cells.iter_mut().skip(column).step_by(columns).for_each(|cell| cell.1 = word);
 }
@@ -96,7 +97,8 @@ fn some_bits(rng: &mut Rng, bits: std::ops::RangeInclusive<u32>, often: usize) -
 
 /// Aggregates that the container and its overlays allow, and one that is taken.
 fn aggregates(rng: &mut Rng) -> Draft {
-    let rows = 2 + rng.below(4);
+    let few = 2 + rng.below(4);
+    let rows = or_about_ten(rng, few);
     let mut tables = vec![clear(rng, 2, rows)];
     let word = |rng: &mut Rng| A | some_bits(rng, 16..=20, 75) | 2 + rng.below(rows - 1) as u32;
     let own = word(rng);
@@ -187,7 +189,8 @@ fn labels_that_are_read(rng: &mut Rng) -> Draft {
 /// T over A over N, or some of them, divided among overlays and perhaps the
 /// container, taken off stage by stage.
 fn chains(rng: &mut Rng) -> Draft {
-    let rows = 2 + rng.below(4);
+    let few = 2 + rng.below(4);
+    let rows = or_about_ten(rng, few);
     let (code, aggregate) = (rng.below(4) as u8, rng.below(5) as u8);
     let digits = rng.between(1, 5);
     let most = rows + rng.chance(15) as usize;
@@ -221,7 +224,8 @@ fn chains(rng: &mut Rng) -> Draft {
 /// One stage from each overlay, onto clear cells, taken off as far as H allows or
 /// dropped.
 fn a_stage_from_each(rng: &mut Rng) -> Draft {
-    let rows = 2 + rng.below(3);
+    let few = 2 + rng.below(3);
+    let rows = or_about_ten(rng, few);
     let mut tables = vec![clear(rng, 2, rows)];
     one_key(rng, &mut tables[0]);
     let (code, aggregate) = (rng.below(2) as u8, rng.below(5) as u8);

@@ -8,6 +8,7 @@ use crate::noise::NOISY;
 use crate::reference::value::{HIGHEST, LOWEST};
 use crate::rng::Rng;
 use crate::sheet_scenes;
+use crate::year_scenes::or_about_ten;
 
 pub struct Scene {
     pub tables: Vec<RawTable>,
@@ -316,7 +317,8 @@ fn over_before_a_stage(rng: &mut Rng) -> Scene {
 /// over the result: the larger minimum and the common aggregates decide. With a
 /// minimum of 2 the first GROUP may discharge one of the two.
 fn group_a_composed_label(rng: &mut Rng) -> Scene {
-    let groups = 4 + rng.below(4);
+    let few = 4 + rng.below(4);
+    let groups = or_about_ten(rng, few);
     let mut words = [0; 2];
     for word in &mut words {
         let minimum = if rng.chance(30) { 2 } else { groups as i64 + rng.between(-1, 1) };
@@ -456,7 +458,8 @@ fn noise_at_the_ends(rng: &mut Rng) -> Scene {
 /// A label of N below A, mostly below T as well, taken off stage by stage;
 /// sometimes one of the operations is not allowed.
 fn noise_ends_a_chain(rng: &mut Rng) -> Scene {
-    let rows = 2 + rng.below(6);
+    let few = 2 + rng.below(6);
+    let rows = or_about_ten(rng, few);
     let (transformed, keys) = (rng.chance(70), rng.below(2));
     let (code, aggregate) = (rng.below(4) as u8, rng.below(5) as u8);
     let digits = rng.between(1, 5);

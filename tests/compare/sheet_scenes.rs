@@ -8,6 +8,7 @@ use crate::reference::value::{Value, HIGHEST};
 use crate::rng::Rng;
 use crate::scenes::{keep, noise, scan, Scene};
 use crate::sheets::{numbers, put, shuffle};
+use crate::year_scenes::or_about_ten;
 
 pub const KEY: usize = 0;
 pub const VALUE: usize = 1;
@@ -18,10 +19,11 @@ const SHEET: usize = 2;
 /// put in later.
 pub fn ballots(rng: &mut Rng) -> RawTable {
     let first = rng.pick(&[0, 0, 1, 255]);
-    let apart = rng.pick(&[1, 1, 1, 1 << 8, 1 << 16, 1 << 32, HIGHEST / 5]);
+    let apart = rng.pick(&[1, 1, 1, 1 << 8, 1 << 16, 1 << 32, HIGHEST / 12]);
     let mut rows = Vec::new();
     for key in 0..1 + rng.below(3) as i64 {
-        let different = 1 + rng.below(5) as i64;
+        let few = 1 + rng.below(5);
+        let different = or_about_ten(rng, few) as i64;
         for row in 0..different + rng.between(0, 5) {
             let sheet = if row < different { row } else { rng.between(0, different - 1) };
             rows.push([(key, 0), (rng.between(-9, 99), 0), (first + apart * sheet, 0)]);
@@ -37,7 +39,7 @@ pub fn ballots(rng: &mut Rng) -> RawTable {
 
 /// How many sheets the rows with key 0 have, in these tables together.
 pub fn sheets_of_key_0(tables: &[RawTable]) -> usize {
-    let tables = read(tables);
+    let tables = read(0, tables);
     let rows = tables.iter().flat_map(|table| (0..table.rows()).map(move |row| (table, row)));
     let of_key_0 = rows.filter(|(table, row)| table.row(*row)[KEY].value == Value::Known(0));
     distinct(of_key_0.map(|(table, row)| table.marks[row]))
@@ -47,7 +49,10 @@ pub fn sheets_of_key_0(tables: &[RawTable]) -> usize {
 /// aggregate that it allows, or by chance another.
 fn put_label(rng: &mut Rng, table: &mut RawTable, sheets: usize) -> u8 {
     let aggregate = rng.below(5) as u8;
-    let minimum = (sheets as i64 + rng.pick(&[-1, 0, 0, 1, 1])).clamp(2, 1023);
+    let mut minimum = (sheets as i64 + rng.pick(&[-1, 0, 0, 1, 1])).clamp(2, 1023);
+    if sheets > 8 && rng.chance(40) {
+        minimum = rng.pick(&[2, 3, 9, 10]);
+    }
     let below = rng.pick(&[0, 0, 0, 0x1080_0000]);
     let word = 1 << 29 | 1 << (16 + aggregate) | minimum as u32 | below;
     let some_clear = rng.chance(25);
@@ -175,8 +180,8 @@ pub fn joined(rng: &mut Rng) -> Scene {
 /// A GROUP that discharges nothing, by key and by a further column, and a second
 /// one over its rows.
 pub fn group_of_groups(rng: &mut Rng) -> Scene {
-    let inner = 2 + rng.below(4);
-    let shared = rng.below(3);
+    let few = 2 + rng.below(4);
+    let (inner, shared) = (or_about_ten(rng, few), rng.below(3));
     let mut rows = Vec::new();
     for part in 0..inner as i64 {
         for row in 0..1 + rng.between(0, 3) {
@@ -211,7 +216,7 @@ pub fn group_of_groups(rng: &mut Rng) -> Scene {
 /// 256 rows: of one key, of a few and of many; sheets all different, all the same
 /// and others.
 pub fn full_tables(rng: &mut Rng) -> Scene {
-    let keys = rng.pick(&[1, 1, 4, 64]);
+    let keys = rng.pick(&[1, 1, 4, 25, 26, 64]);
     let mut numbers = match rng.below(5) {
         0 => (0..256).collect(),
         1 => vec![rng.between(0, 9); 256],

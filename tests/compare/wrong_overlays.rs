@@ -26,6 +26,7 @@ pub static WRONG_OVERLAYS: &[WrongOverlay] = &[
     ("21 count, one less", 21, |r, t| count(r, t, t.len() - 1)),
     ("21 count, one more", 21, |r, t| count(r, t, t.len() + 1)),
     ("21 count 65535", 21, |r, t| count(r, t, 65_535)),
+    ("21 count, high byte 1", 21, |r, t| count(r, t, t.len() + 256)),
     ("21 count, high byte", 21, |r, t| {
         let high = 1 + r.below(255);
         count(r, t, t.len() + 256 * high)

@@ -2,7 +2,7 @@
 //! the refusal.
 
 use crate::damage::Made;
-use crate::draft::{assemble, part_offset, Draft, RawStep};
+use crate::draft::{part_offset, Draft, RawStep};
 use crate::labels::label;
 use crate::reference::value::LOWEST;
 use crate::rng::Rng;
@@ -17,7 +17,7 @@ pub fn no_column(rng: &mut Rng, mut d: Draft) -> Draft {
 /// The container, with the place of this table's part.
 pub fn at_table(d: &Draft, table: usize) -> Made {
     let parts = d.parts();
-    (assemble(&parts), part_offset(&parts, table + 1))
+    (d.assembled(&parts), part_offset(&parts, table + 1))
 }
 
 /// No column for the sheets of some table, and a wrong plan.

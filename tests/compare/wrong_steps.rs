@@ -1,7 +1,7 @@
 //! Plans with one wrong step, and the offset of the refusal.
 
 use crate::damage::Made;
-use crate::draft::{assemble, part_offset, step, Draft, RawStep};
+use crate::draft::{part_offset, step, Draft, RawStep};
 use crate::generate::{any_step, number, shapes};
 use crate::reference::value::{HIGHEST, LOWEST};
 use crate::rng::Rng;
@@ -114,7 +114,7 @@ pub fn left_over(rng: &mut Rng, mut d: Draft, depth: usize) -> Made {
     prefix(rng, &mut d, depth);
     let parts = d.parts();
     let end = part_offset(&parts, 1);
-    (assemble(&parts), end)
+    (d.assembled(&parts), end)
 }
 
 pub fn with_width(rng: &mut Rng, mut d: Draft, wrong: impl Fn(&mut Rng, usize) -> RawStep) -> Made {

@@ -7,6 +7,7 @@ use super::label::{Label, SMALLEST_MINIMUM};
 use super::steps::{Step, STEP_BYTES};
 use super::table::{Cell, Mark, Table};
 use super::value::{in_range, Value};
+use super::year::RuleYear;
 use std::ops::Range;
 
 pub const MOST_BYTES: usize = 65_536;
@@ -63,29 +64,46 @@ pub fn refuse<T>(fault: InputFault, offset: usize) -> Result<T, InputRefusal> {
 /// A container past the input checks, with the four header bytes of each table.
 #[derive(Clone)]
 pub struct Container {
+    pub year: RuleYear,
     pub tables: Vec<Table>,
     pub headers: Vec<[u8; 4]>,
     pub plan: Vec<Step>,
 }
 
-pub fn parse(bytes: &[u8]) -> Result<Container, InputRefusal> {
-    parse_with_minima_from(SMALLEST_MINIMUM, bytes)
+/// What requests have changed in the input checks.
+pub struct Check {
+    pub smallest_minimum: u16,
+    pub years: &'static [RuleYear],
 }
 
-/// The same where a group minimum may be as small as this.
-pub fn parse_with_minima_from(smallest: u16, bytes: &[u8]) -> Result<Container, InputRefusal> {
-    let parts = match directory(bytes, |count| (2..=9).contains(&count)) {
+const CHECK: Check =
+    Check { smallest_minimum: SMALLEST_MINIMUM, years: &[RuleYear::Earlier, RuleYear::Floor] };
+
+pub fn parse(bytes: &[u8]) -> Result<Container, InputRefusal> {
+    parse_by(&CHECK, bytes)
+}
+
+pub fn parse_by(check: &Check, bytes: &[u8]) -> Result<Container, InputRefusal> {
+    // "a 16-bit part count, 2 to 9", of which by #108 "the high byte .. becomes the
+    // rule year".
+    let year = |high: u8| check.years.iter().copied().find(|year| year.byte() == high);
+    let count = |[low, high]: [u8; 2]| {
+        let right = (2..=9).contains(&low) && year(high).is_some();
+        right.then_some(low as usize)
+    };
+    let parts = match directory(bytes, count) {
         Ok(parts) => parts,
         Err(Misfit::Whole) => return refuse(InputFault::Container, 0),
         Err(Misfit::Pair(place)) => return refuse(InputFault::Directory, place),
     };
+    let year = year(bytes[1]).expect("a right part count");
     let (mut tables, mut headers) = (Vec::new(), Vec::new());
     for (number, part) in parts[1..].iter().enumerate() {
-        tables.push(table(bytes, part.clone(), number, smallest)?);
+        tables.push(table(bytes, part.clone(), number, check.smallest_minimum)?);
         headers.push(bytes[part.start..part.start + 4].try_into().unwrap());
     }
     let plan = plan(bytes, parts[0].clone(), &tables)?;
-    Ok(Container { tables, headers, plan })
+    Ok(Container { year, tables, headers, plan })
 }
 
 fn u16_at(bytes: &[u8], offset: usize) -> usize {
@@ -109,18 +127,20 @@ pub enum Misfit {
 
 /// "First a 16-bit part count, 2 to 9, then a directory with one pair per
 /// part, 32-bit offset and 32-bit length." The same of an overlay, #106, with
-/// another count.
+/// another count. `count` says how many parts these two bytes stand for, if they
+/// are right.
 pub fn directory(
     bytes: &[u8],
-    right_count: impl Fn(usize) -> bool,
+    count: impl Fn([u8; 2]) -> Option<usize>,
 ) -> Result<Vec<Range<usize>>, Misfit> {
-    if bytes.len() > MOST_BYTES || bytes.len() < 2 {
-        return Err(Misfit::Whole);
-    }
-    let count = u16_at(bytes, 0);
-    if !right_count(count) || bytes.len() < 2 + PAIR_BYTES * count {
-        return Err(Misfit::Whole);
-    }
+    let count = match *bytes {
+        [low, high, ..] if bytes.len() <= MOST_BYTES => count([low, high]),
+        _ => None,
+    };
+    let count = match count {
+        Some(count) if bytes.len() >= 2 + PAIR_BYTES * count => count,
+        _ => return Err(Misfit::Whole),
+    };
     // "The first part begins where the directory ends, each next one where the
     // last ends, and the final one ends the container."
     let pair = |part: usize| 2 + PAIR_BYTES * part;

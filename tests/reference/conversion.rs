@@ -1,18 +1,23 @@
 //! Document 02, #107: "Stored containers with 1 are refused until converted." The
 //! conversion "raises each 1 to 2, leaves all other bytes the same", and tells "the
 //! offset of each label changed". "It converts only containers that the old check
-//! accepts."
+//! accepts", which knows no rule year: the part count has 16 bits there.
 //!
 //! The container is read as it was before, each label is raised, and all of it is
 //! written anew.
 
-use super::container::{parse_with_minima_from, Container, InputRefusal, PAIR_BYTES};
-use super::label::{Grouping, Label, SMALLEST_MINIMUM};
+use super::container::{parse_by, Check, Container, InputRefusal, PAIR_BYTES};
+use super::label::SMALLEST_MINIMUM;
 use super::table::{Cell, Table};
 use super::value::Value;
+use super::year::RuleYear;
 
 /// The smallest group minimum of the old check.
 pub const OLD_SMALLEST_MINIMUM: u16 = 1;
+
+/// A high byte of the part count other than 0 was no part count.
+pub const OLD_CHECK: Check =
+    Check { smallest_minimum: OLD_SMALLEST_MINIMUM, years: &[RuleYear::Earlier] };
 
 /// The offsets that a conversion is lent room for.
 pub const OFFSETS_LENGTH: usize = 8_192;
@@ -22,22 +27,16 @@ pub type WithLabels = (Vec<u8>, Vec<usize>);
 
 /// The new container, and the labels changed.
 pub fn converted(bytes: &[u8]) -> Result<WithLabels, InputRefusal> {
-    let mut container = parse_with_minima_from(OLD_SMALLEST_MINIMUM, bytes)?;
+    let mut container = parse_by(&OLD_CHECK, bytes)?;
     let mut changed = Vec::new();
     for cell in container.tables.iter_mut().flat_map(|table| &mut table.cells) {
-        let label = raised(cell.label);
+        let label = cell.label.with_minimum_at_least(SMALLEST_MINIMUM);
         changed.push(label != cell.label);
         cell.label = label;
     }
     let (bytes, labels) = written(&container);
     let offsets = labels.into_iter().zip(changed).filter(|(_, changed)| *changed);
     Ok((bytes, offsets.map(|(offset, _)| offset).collect()))
-}
-
-fn raised(label: Label) -> Label {
-    let raise =
-        |stage: Grouping| Grouping { minimum: stage.minimum.max(SMALLEST_MINIMUM), ..stage };
-    Label { aggregate: label.aggregate.map(raise), ..label }
 }
 
 /// A container with the labels of all its cells: "First a 16-bit part count, 2 to

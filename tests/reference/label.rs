@@ -134,6 +134,12 @@ impl Label {
         self.stages() == 0
     }
 
+    /// Where A is present, with a group minimum of this at least.
+    pub fn with_minimum_at_least(&self, least: u16) -> Label {
+        let raise = |stage: Grouping| Grouping { minimum: stage.minimum.max(least), ..stage };
+        Label { aggregate: self.aggregate.map(raise), ..*self }
+    }
+
     /// The number of stages present.
     pub fn stages(&self) -> u32 {
         self.held as u32

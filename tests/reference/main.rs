@@ -313,3 +313,9 @@ mod sheet_examples;
 
 #[cfg(test)]
 mod text_examples;
+
+#[cfg(test)]
+mod year_checks;
+
+#[cfg(test)]
+mod year_examples;

@@ -53,7 +53,9 @@ fn labels(overlay: &[u8], container: &Container) -> Result<Vec<Vec<Label>>, Inpu
 /// part the four header bytes of that table and then only labels". Or its first
 /// 21: "count, directory, header or length does not fit the container".
 fn parts(overlay: &[u8], container: &Container) -> Result<Vec<usize>, InputRefusal> {
-    let parts = match directory(overlay, |count| count == container.tables.len()) {
+    let tables = container.tables.len();
+    let count = |bytes: [u8; 2]| (u16::from_le_bytes(bytes) as usize == tables).then_some(tables);
+    let parts = match directory(overlay, count) {
         Ok(parts) => parts,
         Err(Misfit::Whole) => return refuse(InputFault::Overlay, 0),
         Err(Misfit::Pair(place)) => return refuse(InputFault::Overlay, place),

@@ -6,6 +6,7 @@ use super::overlay::{composed, Overlays};
 use super::table::Table;
 use super::text;
 use super::value::Value;
+use super::year::by_year;
 
 pub const WORK_LENGTH: usize = 8_192;
 pub const MARKS_LENGTH: usize = 1_024;
@@ -80,8 +81,9 @@ pub fn run(
         return Answer::ShortSlice;
     }
     let prepared = parse(container).and_then(|container| composed(container, overlays));
+    // #108's floor comes "after overlays are composed".
     let container = match prepared {
-        Ok(container) => container,
+        Ok(container) => by_year(container),
         Err(refusal) => return Answer::Input(refusal),
     };
     let evaluation = evaluate(&container, draws);

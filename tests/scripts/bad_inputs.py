@@ -16,6 +16,7 @@ BLAME = "the output was changed, is not that of CONTAINER without overlays, or i
 TABLE = "a table is begun by 'table' and its number of columns, as in 'table 2', and with sheet numbers in its column 0 'table 2 sheets 0'"
 ANSWERS = "'answers check', 'run', 'noise', 'overlays' or 'convert' stands before the first container"
 TABLES_ALONE = "behind 'converted' stand tables, and then the answer"
+YEAR = "a rule year is written as in 'year 1'"
 SCALE = "is not a number above 0, as 3, 1/2 or 2.5, of at most 9 and 9 digits; -h prints help"
 
 # Rows of a table of one column, in line 6 of ROW_TEXT.
@@ -170,6 +171,26 @@ TEXTS = [
         "the draw '9223372036854775808' is not between -9,223,372,036,854,775,808 and 9,223,372,036,854,775,807",
     ),
     ("answers noise\n" + GOOD_TEXT + "draws\n" + f"  repeat 1000: {'5 ' * 900}\n", 9, f"the text {TOO_MUCH}"),
+    ("year 1\n" + GOOD_TEXT, 1, "'year 1' stands before the first line 'container NAME'"),
+    ("container a\n# x\nyear\n", 3, YEAR),
+    ("container a\n# x\nyear 1 0\n", 3, YEAR),
+    ("container a\n# x\nyear x\n", 3, f"'x' is not a number; {NUMBER}"),
+    ("container a\n# x\nyear 0x01\n", 3, f"'0x01' is not a number; {NUMBER}"),
+    ("container a\n# x\nyear -1\n", 3, "the rule year '-1' is not between 0 and 255"),
+    ("container a\n# x\nyear 256\n", 3, "the rule year '256' is not between 0 and 255"),
+    ("container a\n# x\nyear 1\nyear 1\n", 4, "a has its rule year already"),
+    ("container a\n# x\nyear 0\nyear 1\n", 4, "a has its rule year already"),
+    ("container a\n# x\nyear 1\nraw\n  02 01\n", 4, "'raw' is the whole container, so there is no line 'year'"),
+    (GOOD_TEXT + "year 1\n", 7, "'year' stands before the first section"),
+    (GOOD_TEXT + "answer\n  year 1\n", 8, "'year' stands before the first section"),
+    (GOOD_TEXT.replace("# x\n", "# x\nyear 2\n"), 1, f"its rule year, byte 1, is 2, and it is 0 or 1 (11 at byte 0; {MEANT})"),
+    (GOOD_TEXT.replace("# x\n", "# x\nyear 255\n"), 1, f"its rule year, byte 1, is 255, and it is 0 or 1 (11 at byte 0; {MEANT})"),
+    (
+        "answers convert\n" + GOOD_TEXT.replace("# x\n", "# x\nyear 1\n") + "answer\n",
+        2,
+        f"its rule year, byte 1, is 1, and a container that is converted has 0 (11 at byte 0; {MEANT})",
+    ),
+    (GOOD_TEXT + "table 1\n" * 254, 260, "there are more than 255 parts"),
     ("container a\nplan\n", 1, "a has no comment, a line with # that says what it shows"),
     ("container a\n# x\n", 1, "a has no plan"),
     ("container a\n# x\n5\n", 3, "'5' stands before the first section; sections are plan table part raw damage draws overlay labels converted answer"),

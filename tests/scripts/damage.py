@@ -5,7 +5,7 @@ WORDS = (
     "5: 5:A(sum,2) 5:A(10,sum) T(cut1,cut4) T() H+ 20030000 -1 0 00 01067 0x10 1_000 9999999999999999999999 {i} {i/0} {i*9+1} "
     "repeat repeat 3: 999999: with d=1 STEP kind=9 bytes 00 FF zeros 70000 SCAN UNION JOIN FILTER KEEP APPLY GROUP count sum avg "
     "column = <= cut band add plan table 2 part raw damage answer answers check container append truncate offset X S R 31 35 ; # "
-    "NOISE draws noise N(noise) 37 sheets 20 overlay overlays labels clear . 21 22 converted convert 20020001 46 "
+    "NOISE draws noise N(noise) 37 sheets 20 overlay overlays labels clear . 21 22 converted convert 20020001 46 year 255 "
     "\u0663 \u00a0 ( ) , : +"
 ).split(" ")
 CHARACTERS = "0123456789:;(),+-{}#=SRXHTAN \n\t\r\x00\u00e9\u2028"
@@ -102,12 +102,12 @@ def value(rng):
 LABELS = (
     ["", "", "", "H", "T()", "T(add)", "T(cut2)", "T(sub,band)", "N()", "N(noise)", "A(2)", "A(sum,2)", "A(sum,3)", "A(count,2)"]
     + ["A(count,sum,min,max,avg,3)", "T(cut1)+A(sum,2)", "T(add,band)+A(avg,2)", "A(sum,2)+N()", "H+A(sum,2)", "A(min,max,2)"]
-    + ["N(noise)", "A(count,sum,2)+N(noise)", "T(add,sub)+N(noise)", "A(sum,257)"]
+    + ["N(noise)", "A(count,sum,2)+N(noise)", "T(add,sub)+N(noise)", "A(sum,257)", "A(count,sum,9)", "A(count,sum,10)", "A(sum,avg,11)"]
 )
 
 
 def table(rng, labelled):
-    """A table of few rows; each column has labels or none, and one may have sheet numbers."""
+    """A table of at most eleven rows; each column has labels or none, and one may have sheet numbers."""
     columns = rng.randint(1, 4)
     cells = [labelled_cell if labelled and rng.random() < 0.4 else clear_cell for _ in range(columns)]
     begun = f"table {columns}"
@@ -115,7 +115,7 @@ def table(rng, labelled):
         sheets = rng.randrange(columns)
         cells[sheets] = sheet_number
         begun += f" sheets {sheets}"
-    rows = rng.choice((0, 1, 2, 3, 5, 8))
+    rows = rng.choice((0, 1, 2, 3, 5, 8, 9, 10, 11))
     return columns, [begun] + ["  " + " ".join(cell(rng) for cell in cells) for _ in range(rows)]
 
 
@@ -129,7 +129,7 @@ def labelled_cell(rng):
 
 
 def sheet_number(rng):
-    return str(rng.choice((0, 1, 2, 2, 3, 256, 2**47 - 1)))
+    return str(rng.choice((0, 1, 2, 2, 3, 256, 2**47 - 1, *range(4, 20))))
 
 
 def operand(rng, width):
@@ -174,8 +174,28 @@ def closing_step(rng, stack):
     return "KEEP 0", stack[:-1] + [1]
 
 
-def right_lines(rng, name, noise):
-    """The lines of a container that passes the input checks, and the lines of each of its tables."""
+def ballots(rng):
+    """A table of about ten sheets, of one row or two each, with a group minimum of about ten or less, and a plan that aggregates them."""
+    sheets, rows = rng.choice((4, 8, 9, 9, 10, 11)), rng.choice((1, 1, 2))
+    minimum = rng.choice((2, 3, 4, 8, 9, 10, 11))
+    label = rng.choice(("A(count,sum,{})", "A(sum,{})", "A(count,sum,{})+N(noise)", "T(add)+A(count,sum,{})")).format(minimum)
+    cells = [f"  {i % sheets} 7 {rng.randrange(100)}:{label}" for i in range(sheets * rows)]
+    column = 3 if label.startswith("T") and rng.random() < 0.9 else 2
+    plan = ["SCAN 0", *rng.choice(([], [], ["SCAN 0", "UNION"])), *(["APPLY 2 add 1"] * (column - 2))]
+    plan.append(f"GROUP 1 {rng.choice(('count', 'sum', 'sum', 'avg'))} {column}")
+    plan += rng.choice(([], [], ["FILTER 1 >= 0"], ["KEEP 0"], ["NOISE 1"], ["APPLY 0 add column 1"], ["GROUP 1 count 0"]))
+    return [f"  {step}" for step in plan], [["table 3" + rng.choice(("", " sheets 0")), *cells]]
+
+
+def right_lines(rng, name, noise, years):
+    """The lines of a container of one of these rule years that passes the input checks, and the lines of each of its tables."""
+    plan, tables = ballots(rng) if rng.random() < 0.3 else any_plan(rng, noise)
+    lines = [f"container {name}", "# generated", f"year {rng.choice(years)}", "plan", *plan]
+    return lines + sum(tables, []), tables
+
+
+def any_plan(rng, noise):
+    """The lines of a plan, and those of each of its tables."""
     tables = [table(rng, rng.random() < 0.8) for _ in range(rng.randint(1, 3))]
     widths = [columns for columns, _ in tables]
     plan, stack = [], []
@@ -185,15 +205,12 @@ def right_lines(rng, name, noise):
     while len(stack) > 1:
         step, stack = closing_step(rng, stack)
         plan.append(f"  {step}")
-    lines = [f"container {name}", "# generated", "plan", *plan]
-    for _, rows in tables:
-        lines += rows
-    return lines, [rows for _, rows in tables]
+    return plan, [rows for _, rows in tables]
 
 
-def right_text(rng, name, noise=0.05):
-    """The text of a container that passes the input checks."""
-    return "\n".join(right_lines(rng, name, noise)[0]) + "\n"
+def right_text(rng, name, noise=0.05, years=(0, 1)):
+    """The text of a container of one of these rule years that passes the input checks."""
+    return "\n".join(right_lines(rng, name, noise, years)[0]) + "\n"
 
 
 def labels_for(rng, table):
@@ -222,7 +239,7 @@ def overlay_for(rng, tables):
 
 def overlaid_text(rng, name):
     """The text of a right container with up to four overlays, and of the same with the overlays in reverse order, under the name 'reversed'."""
-    lines, tables = right_lines(rng, name, 0.05)
+    lines, tables = right_lines(rng, name, 0.05, (0, 1))
     overlays = [overlay_for(rng, tables) for _ in range(4)]
     texts = [[*lines, *sum(overlays, [])], ["container reversed", *lines[1:], *sum(reversed(overlays), [])]]
     return "answers overlays\n" + "".join("\n".join(text) + "\n" for text in texts)

@@ -172,6 +172,94 @@ STATE = [
     ),
 ]
 
+# Containers of rule year 1; of the same under rule year 0 no sentence speaks of a rule year.
+FLOOR = "The container's rule year 1 reads each minimum below ten as ten."
+YEAR_1 = [
+    (
+        ["SCAN 0", "GROUP 0 sum 1"],
+        ["table 2", "repeat 12: 1 5:A(count,sum,3)", "repeat 4: 2 5:A(count,sum,3)"],
+        "Step 1, group 1, first row: row 12 of table 0, has 4 sheets; A(count,sum,10) asks for 10. The label of row 12, column 1 of table 0 is"
+        f" A(count,sum,3) in the container. {FLOOR}\nNothing",
+    ),
+    (
+        ["SCAN 0", "SCAN 0", "UNION", "GROUP 0 sum 1"],
+        ["table 2", "repeat 9: 7 5:A(sum,9)"],
+        "has 9 sheets in 18 rows; A(sum,10) asks for 10. The label of row 0, column 1 of table 0 is A(sum,9) in the container."
+        f" {FLOOR}\nNothing",
+    ),
+    (
+        ["SCAN 0", "SCAN 1", "UNION", "GROUP sum 0"],
+        ["table 1", "repeat 5: 1", "table 1", "5:A(sum,2)", "6:A(sum,20)"],
+        f"has 7 sheets; A(sum,10) asks for 10. The label of row 0, column 0 of table 1 is A(sum,2) in the container. {FLOOR}\nNothing",
+    ),
+    (
+        ["SCAN 0", "SCAN 1", "UNION", "GROUP sum 0"],
+        ["table 1", "repeat 5: 1", "table 1", "5:A(sum,20)", "6:A(sum,2)"],
+        "Step 3, group 0, first row: row 0 of table 0, has 7 sheets; A(sum,20) asks for 20.\nNothing",
+    ),
+    (
+        ["SCAN 0", "GROUP sum 0"],
+        ["table 1", "repeat 9: 5:A(sum,10)"],
+        "Step 1, group 0, first row: row 0 of table 0, has 9 sheets; A(sum,10) asks for 10.\nNothing",
+    ),
+    (
+        ["SCAN 0", "GROUP 0 1 max 2", "GROUP 0 sum 2"],
+        ["table 3", "7 0 5:A(sum,3)", "7 0 6:A(sum,30)"],
+        "Step 2, group 0, first row: group 0 of step 1, has 1 sheet; A(sum,30) asks for 30.\nNothing",
+    ),
+    (
+        ["SCAN 0", "GROUP avg 0"],
+        ["table 1", "repeat 4: 5:A(count,sum,3)"],
+        "avg is not among count, sum (A(count,sum,10)), and A(count,sum,10) asks for 10. The label of row 0, column 0 of table 0 is"
+        f" A(count,sum,3) in the container. {FLOOR}\nNothing",
+    ),
+    (
+        ["SCAN 0", "GROUP sum 0"],
+        ["table 1", "repeat 10: 5:A(sum,2)+N(noise)"],
+        "has 10 sheets; A is gone; N(noise) asks for a NOISE.\nNothing",
+    ),
+    (
+        ["SCAN 0", "APPLY 0 cut 2", "KEEP 1"],
+        ["table 1", "12345:T(cut3)+A(sum,2)"],
+        "made it of row 0, column 0 of table 0: it cut 2 digits off, and T(cut3) asks for at least 3.\nNothing",
+    ),
+    (
+        ["SCAN 0", "APPLY 0 cut 3", "KEEP 1"],
+        ["table 1", "12345:T(cut3)+A(sum,2)"],
+        "T is gone; A(sum,10) asks for a GROUP with sum over at least 10 sheets. The label of row 0, column 0 of table 0 is T(cut3)+A(sum,2) in the"
+        f" container. {FLOOR}\nNothing",
+    ),
+    (
+        ["SCAN 0"],
+        ["table 1", "5:A(sum,9)"],
+        "It is row 0, column 0 of table 0 under rule year 1, labelled A(sum,10): A(sum,10) asks for a GROUP with sum over at least 10 sheets. The label"
+        f" of row 0, column 0 of table 0 is A(sum,9) in the container. {FLOOR} KEEP drops the column where it is not to be published.",
+    ),
+    (
+        ["SCAN 0"],
+        ["table 1", "5:A(sum,10)"],
+        "It is row 0, column 0 of table 0 as the container has it, labelled A(sum,10): A(sum,10) asks for a GROUP with sum over at least 10 sheets."
+        " KEEP drops",
+    ),
+    (
+        ["SCAN 0"],
+        ["table 1", "5:T(band)"],
+        "It is row 0, column 0 of table 0 as the container has it, labelled T(band): T(band) asks for an APPLY of band. KEEP drops",
+    ),
+    (
+        ["SCAN 0", "APPLY 0 add column 1"],
+        ["table 2", "5 6:A(sum,2)"],
+        "under rule year 1, labelled A(sum,10): A(sum,10) asks for a GROUP with sum over at least 10 sheets. The label of row 0, column 1 of table 0"
+        f" is A(sum,2) in the container. {FLOOR}\nNothing",
+    ),
+    (
+        ["SCAN 0", "NOISE 0"],
+        ["table 1", "5:T(cut3)+A(count,sum,2)+N(noise)"],
+        "first APPLY cut by at least 3 digits, then GROUP with count or sum over at least 10 sheets, then NOISE on the column that the GROUP appends."
+        f" The label of row 0, column 0 of table 0 is T(cut3)+A(count,sum,2)+N(noise) in the container. {FLOOR}\nNothing",
+    ),
+]
+
 # The lines of the plan, the lines of the tables, an output that the draws make possible, and the sentence.
 DRAWN = [
     (
@@ -422,6 +510,43 @@ OVERLAID = [
         ["overlay", "labels", "A(sum,2)"],
         "labelled A(sum,2)+N(noise): first GROUP with sum over at least 2 sheets, then NOISE on the column that the GROUP appends. The label of row 0,"
         " column 0 of table 0 is composed of N(noise) in the container and A(sum,2) in overlay 0.",
+    ),
+]
+# The same of containers of rule year 1.
+OVERLAID_YEAR_1 = [
+    (
+        ["SCAN 0", "GROUP 0 sum 1"],
+        ["table 2", "7 3:A(sum,2)", "7 5:A(sum,2)"],
+        ["overlay", "labels", ". .", ". A(count,sum,3)"],
+        f"has 2 sheets; A(sum,10) asks for 10. The label of row 0, column 1 of table 0 is A(sum,2) in the container. {FLOOR}\nNothing",
+    ),
+    (
+        ["SCAN 0", "GROUP 0 sum 1"],
+        ["table 2", "7 3:A(sum,2)", "7 5:A(sum,2)"],
+        ["overlay", "labels", ". A(count,sum,3)", ". ."],
+        "has 2 sheets; A(sum,10) asks for 10. The label of row 0, column 1 of table 0 is composed of A(sum,2) in the container and A(count,sum,3) in"
+        f" overlay 0. {FLOOR}\nNothing",
+    ),
+    (
+        ["SCAN 0", "GROUP 0 sum 1"],
+        ["table 2", "7 3:A(sum,2)", "7 5:A(sum,2)"],
+        ["overlay", "labels", ". A(sum,10)", ". A(sum,10)"],
+        "has 2 sheets; A(sum,10) asks for 10. The label of row 0, column 1 of table 0 is composed of A(sum,2) in the container and A(sum,10) in"
+        " overlay 0.\nNothing",
+    ),
+    (
+        ["SCAN 0", "GROUP sum 0"],
+        ["table 1", "repeat 9: 5"],
+        ["overlay", "overlay", "labels", "A(sum,2)", "repeat 8: ."],
+        "has 9 sheets; A(sum,10) asks for 10. The label of row 0, column 0 of table 0 is A(sum,2) in overlay 1; in the container the cell is clear."
+        f" {FLOOR}\nNothing",
+    ),
+    (
+        ["SCAN 0"],
+        ["table 1", "5:A(sum,2)"],
+        ["overlay", "labels", "T(add)", "overlay", "labels", "A(max,3)"],
+        "It is row 0, column 0 of table 0 under its overlays and rule year 1, labelled T(add)+A(10): T(add) asks for an APPLY of add. The label of row 0,"
+        f" column 0 of table 0 is composed of A(sum,2) in the container, T(add) in overlay 0 and A(max,3) in overlay 1. {FLOOR} KEEP drops",
     ),
 ]
 # Overlays that are refused.

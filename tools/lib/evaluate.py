@@ -290,9 +290,16 @@ def draws_used(lines):
     return sum(rows for kind, rows, *_ in lines if kind == steps.NOISE)
 
 
+def under_year(year, tables):
+    """The tables of a container, with their composed labels as its rule year reads them."""
+    if year == 0:
+        return tables
+    return [table._replace(rows=[[(value, labels.floored(label)) for value, label in row] for row in table.rows]) for table in tables]
+
+
 def evaluate(plan, tables, told=Told()):
-    """The plan of an accepted container over its tables with their composed labels, to the release, the refusal, or a step whose rows the
-    draws decide."""
+    """The plan of an accepted container over its tables, with their labels composed and read under its rule year, to the release, the refusal,
+    or a step whose rows the draws decide."""
     lines, stack, refusal = [], [], None
     for k, step in enumerate(plan):
         refusal, made = MAKERS[step.kind](step, k, Given(tables, told.draws - draws_used(lines)), stack)

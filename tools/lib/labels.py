@@ -11,6 +11,7 @@ AGGREGATES = ("count", "sum", "min", "max", "avg")  # allowed at A: bits 16 to 2
 RESERVED = (22, 21, 15, 14, 13)
 LEAST_MINIMUM = 2  # the smallest group minimum
 EARLIER_MINIMUM = 1  # the smallest one in containers that the program convert reads
+FLOOR = 10  # each smaller one is read as this under rule year 1 (#108)
 
 
 def field(word, at, width):
@@ -143,6 +144,19 @@ def composed(a, b):
     cut_kept = whole >> 26 & 1
     whole |= (max(digits(a), digits(b)) if cut_kept else 0) << 10
     return whole | max(minimum(a), minimum(b))
+
+
+# The floor of ten
+
+
+def below_floor(word):
+    """Whether a label has a group minimum that rule year 1 reads as ten."""
+    return has(word, "A") and minimum(word) < FLOOR
+
+
+def floored(word):
+    """A label as rule year 1 reads it."""
+    return word - minimum(word) + FLOOR if below_floor(word) else word
 
 
 # Text

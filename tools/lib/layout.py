@@ -16,13 +16,21 @@ CELL = 12
 
 # why the input is refused: the number of documents 01 and 02, the byte offset, the reason in words, and the label where it is one
 Refusal = namedtuple("Refusal", "number place reason label", defaults=(None,))
-Contents = namedtuple("Contents", "plan tables")
+Contents = namedtuple("Contents", "year plan tables")
 # a table as the container has it: the column of sheet numbers, or None; its rows are lists of pairs, value and label
 Table = namedtuple("Table", "columns sheets rows")
+# what the checks of a container go by: the smallest group minimum and the last rule year, as the monitor has them and as the program convert does
+Rules = namedtuple("Rules", "least year")
+MONITOR, CONVERT = Rules(labels.LEAST_MINIMUM, 1), Rules(labels.EARLIER_MINIMUM, 0)
 
 
 def part_count(data):
-    return int.from_bytes(data[:2], "little")
+    return data[0]
+
+
+def rule_year(data):
+    """The rule year (#108) of a container, which says how its group minima are read."""
+    return data[1]
 
 
 def pair_at(part):
@@ -38,12 +46,12 @@ def part_name(part):
     return "the plan" if part == 0 else f"table {part - 1}"
 
 
-def parts_of(data):
-    """The parts, or None where the directory does not lay them one after the other to the end."""
-    if len(data) < 2 or part_count(data) < 1 or len(data) < pair_at(part_count(data)):
+def laid_parts(data, count):
+    """So many parts of a container or an overlay, or None where the directory does not lay them one after the other to the end."""
+    if count < 1 or len(data) < pair_at(count):
         return None
-    parts, at = [], pair_at(part_count(data))
-    for part in range(part_count(data)):
+    parts, at = [], pair_at(count)
+    for part in range(count):
         offset, length = pair(data, part)
         if offset != at:
             return None
@@ -52,20 +60,32 @@ def parts_of(data):
     return parts if at == len(data) else None
 
 
-def check_container(data):
-    """11."""
-    count = part_count(data)
+def parts_of(data):
+    """The parts of a container, or None where its directory is wrong."""
+    return laid_parts(data, part_count(data)) if len(data) >= 2 else None
+
+
+def container_fault(data, last):
+    """Why a container's length, rule year, part count or room for its directory is wrong, or None."""
     if len(data) > LONGEST:
-        reason = f"it has more than {LONGEST:,} bytes"
-    elif len(data) < 2:
-        reason = f"it has {plural(len(data), 'byte')}, and its part count alone needs 2"
-    elif not 2 <= count <= TABLES + 1:
-        reason = f"its part count is {count:,}, and it is 2 to {TABLES + 1}: the plan and 1 to {TABLES} tables"
-    elif len(data) < pair_at(count):
-        reason = f"it has {len(data):,} bytes, and the directory of {count} parts ends at {pair_at(count)}"
-    else:
-        return None
-    return Refusal(11, 0, reason)
+        return f"it has more than {LONGEST:,} bytes"
+    if len(data) < 2:
+        return f"it has {plural(len(data), 'byte')}, and its part count and rule year alone need 2"
+    if rule_year(data) > last:
+        right = "it is 0 or 1" if last else "a container that is converted has 0"
+        return f"its rule year, byte 1, is {rule_year(data)}, and {right}"
+    count = part_count(data)
+    if not 2 <= count <= TABLES + 1:
+        return f"its part count is {count}, and it is 2 to {TABLES + 1}: the plan and 1 to {TABLES} tables"
+    if len(data) < pair_at(count):
+        return f"it has {len(data):,} bytes, and the directory of {count} parts ends at {pair_at(count)}"
+    return None
+
+
+def check_container(data, last):
+    """11."""
+    reason = container_fault(data, last)
+    return Refusal(11, 0, reason) if reason else None
 
 
 def check_directory(data):
@@ -285,14 +305,14 @@ def check_plan(part, at, widths):
     return None
 
 
-def check(data, least=labels.LEAST_MINIMUM):
-    """The refusal of a container because of the input, or None. `least` is the smallest group minimum."""
-    refusal = check_container(data) or check_directory(data)
+def check(data, rules=MONITOR):
+    """The refusal of a container because of the input, or None."""
+    refusal = check_container(data, rules.year) or check_directory(data)
     if refusal:
         return refusal
     parts = parts_of(data)
     starts = [pair(data, part)[0] for part in range(len(parts))]
-    return check_tables(parts, starts, least) or check_plan(parts[0], starts[0], [part[0] for part in parts[1:]])
+    return check_tables(parts, starts, rules.least) or check_plan(parts[0], starts[0], [part[0] for part in parts[1:]])
 
 
 def conversion(data, refusal):
@@ -301,7 +321,7 @@ def conversion(data, refusal):
         return None
     if refusal.number != 15:
         return "overlays are not converted: have this one delivered anew"
-    earlier = check(data, labels.EARLIER_MINIMUM)
+    earlier = check(data, CONVERT)
     if earlier is None:
         return "the program convert raises each minimum of 1 in this container to 2"
     also = f"it refuses this container with {earlier.number} at byte {earlier.place}: {earlier.reason}"
@@ -315,6 +335,6 @@ def table_of(part):
 
 
 def contents(data):
-    """The plan and the tables of an accepted container."""
+    """The rule year, the plan and the tables of an accepted container."""
     parts = parts_of(data)
-    return Contents(plan_of(parts[0]), [table_of(part) for part in parts[1:]])
+    return Contents(rule_year(data), plan_of(parts[0]), [table_of(part) for part in parts[1:]])

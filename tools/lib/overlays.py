@@ -19,6 +19,16 @@ LABEL = 4
 Share = namedtuple("Share", "overlay label")
 
 
+def count_of(data):
+    """The count of an overlay, which has no rule year: all of its 16 bits."""
+    return int.from_bytes(data[:2], "little")
+
+
+def parts_of(data):
+    """The parts of an overlay, or None where its directory is wrong."""
+    return layout.laid_parts(data, count_of(data))
+
+
 def part_length(table):
     """The bytes of an overlay's part for a table's part of a container."""
     columns, _, rows = layout.header(table)
@@ -27,7 +37,7 @@ def part_length(table):
 
 def check_count(data, tables):
     """21 at 0: the length, the count and the room for the directory."""
-    count, ends = layout.part_count(data), layout.pair_at(len(tables))
+    count, ends = count_of(data), layout.pair_at(len(tables))
     if len(data) > LONGEST:
         reason = f"it has more than {LONGEST:,} bytes"
     elif len(data) < 2:
@@ -43,7 +53,7 @@ def check_count(data, tables):
 
 def check_directory(data):
     """21 at a pair, where the count is right."""
-    count = layout.part_count(data)
+    count = count_of(data)
     at = layout.pair_at(count)
     for table in range(count):
         offset, length = layout.pair(data, table)
@@ -110,7 +120,7 @@ def check_overlay(data, tables):
     refusal = check_count(data, tables) or check_directory(data)
     if refusal:
         return refusal
-    parts = layout.parts_of(data)
+    parts = parts_of(data)
     starts = [layout.pair(data, table)[0] for table in range(len(parts))]
     return check_parts(parts, tables, starts) or check_labels(parts, tables, starts)
 
@@ -129,7 +139,7 @@ class Labels:
     """The labels of accepted overlays, by table, row and column."""
 
     def __init__(self, overlays):
-        parts = [(number, layout.parts_of(overlay)) for number, overlay in enumerate(overlays) if overlay]
+        parts = [(number, parts_of(overlay)) for number, overlay in enumerate(overlays) if overlay]
         self.tables = [(number, [(part[0], label_words(part)) for part in of]) for number, of in parts]
 
     def over(self, table, row, column):

@@ -31,7 +31,7 @@ def told(lines):
 
 class Reading:
     """A container's file and those of its overlays: why the input is refused and whether a conversion helps, or the plan, the tables with the
-    labels that the overlays leave them, and, once it was evaluated, the evaluation."""
+    labels that the overlays and the rule year leave them, and, once it was evaluated, the evaluation."""
 
     def __init__(self, path, overlay_paths=()):
         data, self.overlays = read_file(path, layout.LONGEST), [read_file(one, overlays.LONGEST) for one in overlay_paths]
@@ -41,14 +41,20 @@ class Reading:
         self.conversion = layout.conversion(data, self.refusal) if self.refusal else None
         self.plan, self.tables, self.result = [], [], None
         if self.refusal is None:
-            self.plan, self.given_tables = layout.contents(data)
+            year, self.plan, self.given_tables = layout.contents(data)
             self.labels = overlays.Labels(self.overlays)
-            self.tables = self.labels.composed(self.given_tables)
+            self.composed_tables = self.labels.composed(self.given_tables)
+            self.tables = evaluate.under_year(year, self.composed_tables)
 
     def shares(self, source):
         """What the label of a table's cell is composed of: the container's and, of the overlays, each that is not zero."""
         _, label = self.given_tables[source.table].rows[source.row][source.column]
         return [overlays.Share(None, label), *self.labels.over(source.table, source.row, source.column)]
+
+    def raised(self, source):
+        """Whether the rule year reads a higher group minimum in the label of a table's cell than the overlays leave it."""
+        composed, read = (tables[source.table].rows[source.row][source.column] for tables in (self.composed_tables, self.tables))
+        return composed != read
 
     def evaluated(self, told):
         """The same after the evaluation, where this is told of the draws."""

@@ -1,4 +1,6 @@
 """Sentences for the monitor's output: what each step made, why it refused, and what to do."""
+import re
+
 import labels
 import steps
 from evaluate import LONGEST_TEXT, FromApply, FromNoise, FromTable, TableRow
@@ -8,7 +10,7 @@ from words import plural
 
 # What a refusal says of itself where the container is not at hand. docs/REFUSALS.md has the same numbers.
 INPUT = {
-    11: "the container's length, its part count or the room for its directory is wrong",
+    11: "the container's length, its rule year, its part count or the room for its directory is wrong",
     12: "the directory does not lay the parts one after the other to the container's end",
     13: "a table's header or length is wrong",
     14: "a value is out of range",
@@ -42,8 +44,9 @@ CAUSES = {
     33: "Causes: the operands stand the wrong way round; a labelled column is added to itself; or an earlier step did not remove the"
     " label, because it cut too few digits off, is not allowed by the label, or had too few sheets in a group.",
     34: "Causes: in a JOIN, keys that repeat on both sides; in a UNION, tables that have more than 256 rows together.",
-    35: "Causes: a group with fewer sheets than a label asks for; an aggregate or operation that a label does not allow; a cut that took"
-    " too few digits off; an N that no NOISE has removed; a raw column left in beside its copy; or H, which no step removes.",
+    35: "Causes: a group with fewer sheets than a label asks for, which under rule year 1 is ten at least; an aggregate or operation that"
+    " a label does not allow; a cut that took too few digits off; an N that no NOISE has removed; a raw column left in beside its copy;"
+    " or H, which no step removes.",
     36: "Causes: a sum, a difference, a band or a value with noise left the range of values, or one of its operands was OVER already.",
     37: "Cause: a NOISE uses a draw for each row that it reads, and the program lent fewer. Run it again with new draws, and never with old ones.",
     51: f"Cause: the program lends fewer bytes than the text has; {LONGEST_TEXT:,} are enough for every text.",
@@ -149,22 +152,31 @@ def listed(words):
     return words[0] if len(words) == 1 else f"{', '.join(words[:-1])} and {words[-1]}"
 
 
-def composition(cell, reading):
-    """What a cell's label is composed of, in a sentence, where an overlay has a share in it."""
+def names_floor(sentence):
+    """Whether a sentence names a label with a group minimum of ten."""
+    return bool(re.search(rf"A\(([a-z]+,)*{labels.FLOOR}\)", sentence))
+
+
+def with_origin(sentence, cell, reading):
+    """A sentence about a cell's label, and behind it what the label is composed of, where an overlay has a share in it, and that the rule year
+    raised its group minimum, where the sentence names it so."""
     source = table_cell(cell, reading.plan).source
     (_, own), *others = reading.shares(source)
-    if not others:
-        return ""
+    raised = reading.raised(source) and names_floor(sentence)
+    if not (others or raised):
+        return sentence
     shares = [f"{labels.label_text(own)} in the container"] * (own != 0)
     shares += [f"{labels.label_text(share.label)} in overlay {share.overlay}" for share in others]
     composed = "composed of " * (len(shares) > 1)
     clear = "; in the container the cell is clear" * (own == 0)
-    return f" The label of {source_place(source)} is {composed}{listed(shares)}{clear}."
+    floor = " The container's rule year 1 reads each minimum below ten as ten." * raised
+    return f"{sentence} The label of {source_place(source)} is {composed}{listed(shares)}{clear}.{floor}"
 
 
 def as_it_is(source, reading):
     """A table's cell, as it is before step 0."""
-    return f"It is {source_place(source)}" + (" under its overlays" if reading.shares(source)[1:] else " as the container has it")
+    over = ["its overlays"] * bool(reading.shares(source)[1:]) + ["rule year 1"] * reading.raised(source)
+    return f"It is {source_place(source)}" + (f" under {listed(over)}" if over else " as the container has it")
 
 
 def left_on(cell, reading):
@@ -338,7 +350,7 @@ class Explained:
         if number == 36:
             return over(cell, self.plan)
         if number == 32:
-            return forbidden(cell, self.reading, self.plan[k].kind) + composition(cell, self.reading)
+            return with_origin(forbidden(cell, self.reading, self.plan[k].kind), cell, self.reading)
         raw = number == 35 and isinstance(cell.source, FromTable)
         drop = " KEEP drops the column where it is not to be published." * raw
-        return left_on(cell, self.reading) + composition(cell, self.reading) + drop
+        return with_origin(left_on(cell, self.reading), cell, self.reading) + drop

@@ -208,25 +208,27 @@ class Labels(Part):
 class Whole:
     """What a text makes of parts or gives as a whole, and then damages: a container, or an overlay of one."""
 
-    kind = "container"
+    kind, most_parts = "container", 255
 
     def __init__(self, name, first_table, budget):
         """`first_table` is the part of table 0."""
         self.name, self.first_table, self.budget = name, first_table, budget
-        self.parts, self.raw, self.damage = [], None, []
+        self.parts, self.raw, self.damage, self.year = [], None, [], None
 
     # Reading
 
     def begin_raw(self, line):
         if self.parts or self.raw is not None:
             raise Fault(f"'raw' is the whole {self.kind}, so there is no other part")
+        if self.year is not None:
+            raise Fault("'raw' is the whole container, so there is no line 'year'")
         self.raw = Part("raw", line)
 
     def add_part(self, part):
         if self.raw is not None:
             raise Fault(f"'raw' is the whole {self.kind}, so there is no other part")
-        if len(self.parts) == 65535:
-            raise Fault("there are more than 65,535 parts")
+        if len(self.parts) == self.most_parts:
+            raise Fault(f"there are more than {self.most_parts:,} parts")
         self.parts.append(part)
 
     def add(self, section, line, count):
@@ -274,7 +276,7 @@ class Whole:
     def assembled(self):
         parts = [part.made() for part in self.parts]
         at = layout.pair_at(len(parts))
-        whole = bytearray(struct.pack("<H", len(parts)))
+        whole = bytearray(struct.pack("<H", len(parts) + 256 * (self.year or 0)))
         for part in parts:
             whole += struct.pack("<II", at, len(part))
             at += len(part)
@@ -319,7 +321,7 @@ class Whole:
 class Overlay(Whole):
     """An overlay of a text."""
 
-    kind = "overlay"
+    kind, most_parts = "overlay", 65535
 
     def __init__(self, number, line, budget):
         super().__init__(f"overlay {number}", 0, budget)
@@ -353,12 +355,11 @@ class Converted(Whole):
 
 
 class Source(Whole):
-    """A container of a text, with its draws, its overlays or what it is converted to, and its answer; `least` is the smallest group minimum
-    that it may have."""
+    """A container of a text, with its draws, its overlays or what it is converted to, and its answer; `rules` are what its checks go by."""
 
-    def __init__(self, name, line, budget, least):
+    def __init__(self, name, line, budget, rules):
         super().__init__(name, 1, budget)
-        self.line, self.least = line, least
+        self.line, self.rules = line, rules
         self.comments, self.answer, self.answered, self.draws, self.overlays, self.converted = [], [], False, None, [], None
 
     # Reading
@@ -366,6 +367,16 @@ class Source(Whole):
     def target(self):
         """What the sections 'table', 'part', 'raw' and 'damage' are of: the container, the overlay that was begun last, or what is converted."""
         return self.overlays[-1] if self.overlays else self.converted or self
+
+    def take_year(self, words, section):
+        """Takes the line 'year N'."""
+        if section is not None:
+            raise Fault("'year' stands before the first section")
+        if len(words) != 2:
+            raise Fault("a rule year is written as in 'year 1'")
+        if self.year is not None:
+            raise Fault(f"{self.name} has its rule year already")
+        self.year = number(words[1], 0, 255, "the rule year")
 
     def begin(self, words, line):
         """Begins the section that a line names."""
@@ -475,7 +486,7 @@ class Source(Whole):
             raise Fault(f"{self.name} has no plan; its section comes before the tables")
         if len(self.parts) == 1:
             raise Fault(f"{self.name} has no table")
-        refusal = layout.check(data, self.least)
+        refusal = layout.check(data, self.rules)
         if refusal:
             raise unmarked(refusal, refusal.reason, self.line_of(refusal))
 
@@ -594,6 +605,8 @@ class Text:
             self.begin_container(words, count)
         elif not self.sources:
             raise Fault(f"{quoted(line)} stands before the first line 'container NAME'")
+        elif words[0] == "year":
+            self.sources[-1].take_year(words, self.section)
         elif words[0] in SECTIONS:
             if ONLY_IN.get(words[0], self.form) != self.form:
                 raise Fault(f"'{words[0]}' stands only in a text that begins with 'answers {ONLY_IN[words[0]]}'")
@@ -616,8 +629,8 @@ class Text:
             raise Fault(f"there is another container '{words[1]}'")
         self.budget.take(1024)
         self.names.add(words[1])
-        least = labels.EARLIER_MINIMUM if self.form == "convert" else labels.LEAST_MINIMUM
-        self.sources.append(Source(words[1], count, self.budget, least))
+        rules = layout.CONVERT if self.form == "convert" else layout.MONITOR
+        self.sources.append(Source(words[1], count, self.budget, rules))
         self.section = None
 
     def file_names(self):
@@ -702,7 +715,7 @@ def shown_overlay(data, tables):
     """An overlay of a container with these tables, or with none that are right."""
     if not data:
         return ["overlay"]
-    parts = layout.parts_of(data)
+    parts = overlays.parts_of(data)
     if parts is None or len(parts) != len(tables):
         return ["overlay", "raw", *lines_of_bytes(data)]
     return ["overlay", *(line for part, table in zip(parts, tables) for line in shown_labels(part, table))]
@@ -712,7 +725,8 @@ def shown_container(data):
     parts = layout.parts_of(data)
     if parts is None:
         return ["raw", *lines_of_bytes(data)]
-    return shown_plan(parts[0]) + [line for part in parts[1:] for line in shown_table(part)]
+    year = [f"year {layout.rule_year(data)}"] * (layout.rule_year(data) != 0)
+    return year + shown_plan(parts[0]) + [line for part in parts[1:] for line in shown_table(part)]
 
 
 def read_made(path, kind):

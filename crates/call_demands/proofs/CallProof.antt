@@ -12,7 +12,7 @@ use Rattle.demands.specs.Answers.{Told, released, refusedInput, refusedState}
 use Rattle.call_demands.specs.CallAccuracy as accuracy
 use Rattle.call_demands.specs.CallMemory.{CallShortKeepsAll, Leaves, CallLeaves, RestKept, CallKeepsRest}
 use Rattle.call_demands.specs.Calls.{RunCall, runCalled, runTold, runCall}
-use Rattle.demands.specs.Given.{Given}
+use Rattle.demands.specs.Given.{Given, yearGiven}
 use Rattle.demands.specs.Lent.{Lent}
 use Rattle.demands.specs.Monitor.{Begun, Run, ended, monitor}
 use Rattle.call_demands.specs.CallAccuracy.{SecrecyOfCalls}
@@ -27,7 +27,7 @@ use Rattle.demands.proofs.Slices.{over-length}
 
 pub secrecy-of-calls : SecrecyOfCalls
 unfolding runCall
-secrecy-of-calls a b in-a in-b alike lent long answer = rw (secrecy-of-runs a b in-a in-b alike lent long)
+secrecy-of-calls year a b in-a in-b alike lent long answer = rw (secrecy-of-runs year a b in-a in-b alike lent long)
 
 -- ---- a call, case by case
 
@@ -73,14 +73,14 @@ call-keeps-rest given lent answer =
 -- ---- demand 2, from the evaluation to the call
 
 pub call-releases : accuracy.CallReleases
-call-releases given lent answer h b table e room =
-    let r = released-is-released given lent b table e room in
+call-releases year given lent answer h b table e room =
+    let r = released-is-released year given lent b table e room in
     rw (long-call given lent answer h, r .0) ((refl, refl), r .1, r .2)
 
 pub call-refuses : accuracy.CallRefuses
-call-refuses given lent answer h = (
-  λ b number step row column e. rw (long-call given lent answer h, refused-is-refused given lent b number step row column e .0) (refl, refl),
-  λ b table e few. rw (long-call given lent answer h, no-room-is-refused given lent b table e few .0) (refl, refl),
+call-refuses year given lent answer h = (
+  λ b number step row column e. rw (long-call given lent answer h, refused-is-refused year given lent b number step row column e .0) (refl, refl),
+  λ b table e few. rw (long-call given lent answer h, no-room-is-refused year given lent b table e few .0) (refl, refl),
   λ e. rw (long-call given lent answer h, short-keeps-all given lent e) (refl, refl),
 )
 
@@ -89,7 +89,7 @@ call-refuses-input given lent answer h long number place e =
     rw (long-call given lent answer h, input-is-checked given lent long number place e) (refl, refl)
 
 pub call-traces : accuracy.CallTraces
-call-traces given lent answer h b = rw (long-call given lent answer h) (trace-is-trace given lent b)
+call-traces year given lent answer h b = rw (long-call given lent answer h) (trace-is-trace year given lent b)
 
 -- ---- demand 1, the slices of the run
 
@@ -107,45 +107,45 @@ pub call-leaves : CallLeaves
 call-leaves given lent answer = by-call given lent answer (Leaves lent) (λ _. kept-leaves (runCalled 1 lent answer) (omega arith) (omega arith) refl) told
   where
     -- 31 to 37, and 51
-    begun-refusal : {number step row column : ℕ} → Begun given lent → 31 ≤ number
+    begun-refusal : {number step row column : ℕ} → Begun (yearGiven given) given lent → 31 ≤ number
         → (monitor given lent .left .output ≡ lent .output) × (monitor given lent .left .text ≡ lent .text)
         → Leaves lent (runTold (ended (refusedState number step row column) (monitor given lent .left)) answer)
     begun-refusal b from kept = record {
       all-kept = λ _ most. absurd (omega arith);
       output-kept = λ _. kept;
       zeroed-by-release = λ n. absurd (omega arith);
-      zeroed-by-refusal = λ _. begun-leaves-zero given lent b;
+      zeroed-by-refusal = λ _. begun-leaves-zero (yearGiven given) given lent b;
       lengths = lengths-kept given lent;
     }
 
-    refusal : {number step row column : ℕ} → Refused given lent number step row column
+    refusal : {number step row column : ℕ} → Refused (yearGiven given) given lent number step row column
         → Leaves lent (runTold (ended (refusedState number step row column) (monitor given lent .left)) answer)
     refusal (short s) = kept-leaves _ (omega arith) (omega arith) (ap (λ (run : Run). run .left) (short-keeps-all given lent s))
     refusal (evaluated {number} {step} {row} {column} b o from to) =
-        let k = refused-is-refused given lent b number step row column o in
+        let k = refused-is-refused (yearGiven given) given lent b number step row column o in
         begun-refusal b from (k .1, k .2)
-    refusal (no-room {table} b o few) = let k = no-room-is-refused given lent b table o few in begun-refusal b (omega arith) (k .1, k .2)
+    refusal (no-room {table} b o few) = let k = no-room-is-refused (yearGiven given) given lent b table o few in begun-refusal b (omega arith) (k .1, k .2)
 
     told : 4 ≤ length answer → (told : Told) → monitor given lent .answer ≡ told → Leaves lent (runTold (ended told (monitor given lent .left)) answer)
     told h (released rows columns bytes) e = record {
       all-kept = λ least _. absurd (omega arith);
       output-kept = λ n. absurd (n refl);
-      zeroed-by-release = λ _. begun-leaves-zero given lent (release-means given lent rows columns bytes e .begun);
+      zeroed-by-release = λ _. begun-leaves-zero (yearGiven given) given lent (release-means (yearGiven given) given lent rows columns bytes refl e .begun);
       zeroed-by-refusal = λ least. absurd (omega arith);
       lengths = lengths-kept given lent;
     }
     told h (refusedInput number place) e =
         let i = input-refusal-means given lent number place e in
         kept-leaves _ (omega arith) (i .to-22) (input-refusal-keeps-all given lent number place e)
-    told h (refusedState number step row column) e = refusal (refusal-means given lent number step row column e)
+    told h (refusedState number step row column) e = refusal (refusal-means (yearGiven given) given lent number step row column refl e)
 
 -- ---- demand 2, from the numbers told to the evaluation
 
 pub call-means : accuracy.CallMeans
-call-means given lent answer = by-call given lent answer (accuracy.Called given lent answer) (λ few. accuracy.answer-short few refl) told
+call-means year given lent answer y = by-call given lent answer (accuracy.Called year given lent answer) (λ few. accuracy.answer-short few refl) told
   where
     told : 4 ≤ length answer → (told : Told) → monitor given lent .answer ≡ told
-        → accuracy.Called given lent answer (runTold (ended told (monitor given lent .left)) answer)
-    told h (released rows columns bytes) e = accuracy.releases h (refl, refl) (release-means given lent rows columns bytes e)
+        → accuracy.Called year given lent answer (runTold (ended told (monitor given lent .left)) answer)
+    told h (released rows columns bytes) e = accuracy.releases h (refl, refl) (release-means year given lent rows columns bytes y e)
     told h (refusedInput number place) e = accuracy.refuses-input h (refl, refl) (input-refusal-means given lent number place e)
-    told h (refusedState number step row column) e = accuracy.refuses h (refl, refl) (refusal-means given lent number step row column e)
+    told h (refusedState number step row column) e = accuracy.refuses h (refl, refl) (refusal-means year given lent number step row column y e)

@@ -1,15 +1,18 @@
 -- The demands hold of a call of `cilunovay_convert`. Assumes nothing.
 use Prim.Native.Nat.{ℕ, _≤_, _<_}
 use mathlib.Core.Path.{_≡_, refl, sym, subst}
-use mathlib.Core.Bool.{Bool, true, false, and-false}
+use mathlib.Core.Bool.{Bool, true, false, not, and-false}
 use mathlib.Core.List.{List}
 use mathlib.Core.Logic.{inl, inr, ⊎-elim, _≢_}
-use lib.Dec.{leb}
+use native.Mathlib.Omega.{arith}
+use lib.Dec.{eqb, leb}
 use lib.ListN.{length}
 use borrow.Author.Tests.{leb-true, leb-false, le-leb, lt-leb}
+use Rattle.container.specs.Check.{checkInputFrom}
 use Rattle.conversion.specs.Conversion.{checkBefore}
 use Rattle.conversion.specs.Converting.{refused, Conversion, ended, byCheck, conversion}
-use Rattle.input.specs.Verdict.{InputVerdict, accepted, rejected}
+use Rattle.input.specs.Verdict.{InputVerdict, accepted, rejected, andThen, rejectIf}
+use Rattle.layout.specs.Layout.{ruleYear}
 use Rattle.call_demands.specs.CallMemory.{RestKept}
 use Rattle.call_demands.specs.Calls.{ConvertCall, convertCalled, convertTold, convertCall}
 use Rattle.call_demands.specs.ConvertDemands as demands
@@ -83,6 +86,15 @@ convert-keeps-rest bytes new offsets answer =
 
 -- ---- demand 2
 
+-- the old check refuses with 11 to 20, as the new one does
+before-numbers : (bytes : List ℕ) (number place : ℕ) → checkBefore bytes ≡ rejected number place → (11 ≤ number) × (number ≤ 20)
+unfolding checkBefore
+before-numbers bytes number place e = go (not (eqb (ruleYear bytes) 0)) e
+  where
+    go : (late : Bool) → andThen (rejectIf late 11 0) (checkInputFrom 1 bytes) ≡ rejected number place → (11 ≤ number) × (number ≤ 20)
+    go true f = let n : 11 ≡ number = cc in (omega arith, omega arith)
+    go false f = input-numbers 1 bytes number place f
+
 pub convert-means : demands.ConvertMeans
 convert-means bytes new offsets answer =
     by-call bytes new offsets answer (demands.Converts bytes new offsets answer) (λ few. demands.answer-short few refl)
@@ -91,7 +103,7 @@ convert-means bytes new offsets answer =
     checked : 2 ≤ length answer → demands.Room bytes new offsets → (verdict : InputVerdict) → checkBefore bytes ≡ verdict
         → demands.Converts bytes new offsets answer (convertTold (byCheck verdict bytes new offsets) answer)
     checked h r accepted e = demands.converts h r e refl
-    checked h r (rejected number place) e = let n = input-numbers 1 bytes number place e in demands.refuses h e (n .0) (n .1) refl
+    checked h r (rejected number place) e = let n = before-numbers bytes number place e in demands.refuses h e (n .0) (n .1) refl
 
 pub convert-too-short : demands.ConvertTooShort
 convert-too-short bytes new offsets answer h s = rw (long-convert bytes new offsets answer h, too-short bytes new offsets answer s)

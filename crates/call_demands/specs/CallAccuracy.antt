@@ -11,7 +11,7 @@ use Rattle.plan.specs.Trace.{flatLines}
 use Rattle.csv_text.specs.Text.{tableText}
 use Rattle.demands.specs.Accuracy.{valuesOf, Released, Refused, RefusedInput}
 use Rattle.call_demands.specs.Calls.{RunCall, runCall}
-use Rattle.demands.specs.Given.{Given, checkGiven, planGiven}
+use Rattle.demands.specs.Given.{Given, checkGiven, planGiven, yearGiven}
 use Rattle.demands.specs.Lent.{Lent, enough}
 use Rattle.demands.specs.Monitor.{evaluation, Begun}
 use Rattle.demands.specs.Secrecy.{AlikeInputs}
@@ -25,8 +25,8 @@ Tells call numbers answer = (call .number ≡ getD numbers 0 0) × (call .answer
 -- what the evaluation releases, where its text has room: 0, its rows, its columns and the bytes of its text, and its values and text in their
 -- slices
 abbrev pub CallReleases : Type 0
-CallReleases = (given : Given) (lent : Lent) (answer : List ℕ) → 4 ≤ length answer → Begun given lent → (table : Table)
-    → evaluation given .outcome ≡ release table → length (tableText table) ≤ length (lent .text)
+CallReleases = (year : ℕ) (given : Given) (lent : Lent) (answer : List ℕ) → 4 ≤ length answer → Begun year given lent → (table : Table)
+    → evaluation year given .outcome ≡ release table → length (tableText table) ≤ length (lent .text)
     → Tells (runCall given lent answer) (0 ∷ length (table .rows) ∷ table .columns ∷ length (tableText table) ∷ []) answer
     × (runCall given lent answer .left .output ≡ valuesOf table ++ drop (length (flat (table .rows))) (lent .output))
     × (runCall given lent answer .left .text ≡ tableText table ++ drop (length (tableText table)) (lent .text))
@@ -34,10 +34,10 @@ CallReleases = (given : Given) (lent : Lent) (answer : List ℕ) → 4 ≤ lengt
 -- what it refuses: the number, the step, the row and the column; 51 at the number of steps for a text without room; and 1 at zeros for another
 -- slice that is too short
 abbrev pub CallRefuses : Type 0
-CallRefuses = (given : Given) (lent : Lent) (answer : List ℕ) → 4 ≤ length answer
-    → (Begun given lent → (number step row column : ℕ) → evaluation given .outcome ≡ refuse number step row column
+CallRefuses = (year : ℕ) (given : Given) (lent : Lent) (answer : List ℕ) → 4 ≤ length answer
+    → (Begun year given lent → (number step row column : ℕ) → evaluation year given .outcome ≡ refuse number step row column
     → Tells (runCall given lent answer) (number ∷ step ∷ row ∷ column ∷ []) answer)
-    × (Begun given lent → (table : Table) → evaluation given .outcome ≡ release table → length (lent .text) < length (tableText table)
+    × (Begun year given lent → (table : Table) → evaluation year given .outcome ≡ release table → length (lent .text) < length (tableText table)
     → Tells (runCall given lent answer) (51 ∷ length (planGiven given) ∷ 0 ∷ 0 ∷ []) answer)
     × (enough lent ≡ false → Tells (runCall given lent answer) (1 ∷ 0 ∷ 0 ∷ 0 ∷ []) answer)
 
@@ -48,27 +48,27 @@ CallRefusesInput = (given : Given) (lent : Lent) (answer : List ℕ) → 4 ≤ l
 
 -- the trace lines of the finished steps
 abbrev pub CallTraces : Type 0
-CallTraces = (given : Given) (lent : Lent) (answer : List ℕ) → 4 ≤ length answer → Begun given lent
-    → runCall given lent answer .left .trace ≡ flatLines (evaluation given .trace) ++ drop (length (flatLines (evaluation given .trace))) (lent .trace)
+CallTraces = (year : ℕ) (given : Given) (lent : Lent) (answer : List ℕ) → 4 ≤ length answer → Begun year given lent
+    → runCall given lent answer .left .trace ≡ flatLines (evaluation year given .trace) ++ drop (length (flatLines (evaluation year given .trace))) (lent .trace)
 
 -- ---- from the numbers told to the evaluation
 
 -- Why a call tells what it tells: 0 for a release, 1 for a slice too short, 11 to 22 for the input, 31 to 37 and 51 for the state, and no other.
-pub data Called (given : Given) (lent : Lent) (answer : List ℕ) (call : RunCall) : Type 0 where
+pub data Called (year : ℕ) (given : Given) (lent : Lent) (answer : List ℕ) (call : RunCall) : Type 0 where
   releases : {rows columns bytes : ℕ} → 4 ≤ length answer → Tells call (0 ∷ rows ∷ columns ∷ bytes ∷ []) answer
-      → Released given lent rows columns bytes (call .left .output) (call .left .text) → Called given lent answer call
-  refuses : {number step row column : ℕ} → 4 ≤ length answer → Tells call (number ∷ step ∷ row ∷ column ∷ []) answer → Refused given lent number step row column
-      → Called given lent answer call
+      → Released year given lent rows columns bytes (call .left .output) (call .left .text) → Called year given lent answer call
+  refuses : {number step row column : ℕ} → 4 ≤ length answer → Tells call (number ∷ step ∷ row ∷ column ∷ []) answer → Refused year given lent number step row column
+      → Called year given lent answer call
   refuses-input : {number place : ℕ} → 4 ≤ length answer → Tells call (number ∷ place ∷ 0 ∷ 0 ∷ []) answer → RefusedInput given lent number place
-      → Called given lent answer call
-  answer-short : length answer < 4 → call .number ≡ 1 → Called given lent answer call
+      → Called year given lent answer call
+  answer-short : length answer < 4 → call .number ≡ 1 → Called year given lent answer call
 
 abbrev pub CallMeans : Type 0
-CallMeans = (given : Given) (lent : Lent) (answer : List ℕ) → Called given lent answer (runCall given lent answer)
+CallMeans = (year : ℕ) (given : Given) (lent : Lent) (answer : List ℕ) → yearGiven given ≡ year → Called year given lent answer (runCall given lent answer)
 
 -- ---- demand 3
 
 -- two inputs that differ only in the values of locked cells give the same call: number, slices of the run and slice for the answer
 abbrev pub SecrecyOfCalls : Type 0
-SecrecyOfCalls = (a b : Given) → checkGiven a ≡ accepted → checkGiven b ≡ accepted → AlikeInputs a b → (lent : Lent) → enough lent ≡ true
+SecrecyOfCalls = (year : ℕ) (a b : Given) → checkGiven a ≡ accepted → checkGiven b ≡ accepted → AlikeInputs year a b → (lent : Lent) → enough lent ≡ true
     → (answer : List ℕ) → runCall a lent answer ≡ runCall b lent answer

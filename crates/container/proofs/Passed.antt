@@ -10,7 +10,7 @@ use Rattle.input.proofs.Laws.{both}
 
 pub record Passed (least : ℕ) (bytes : List ℕ) : Type 0 where
   pub container : checkContainer bytes ≡ accepted
-  pub directory : checkDirectory 12 bytes ≡ accepted
+  pub directory : checkDirectory 12 (partCount bytes) bytes ≡ accepted
   pub tables : checkTables least bytes 1 (partCount bytes - 1) ≡ accepted
   pub plan : checkPlanPart bytes ≡ accepted
 
@@ -18,6 +18,6 @@ pub passed : (least : ℕ) (bytes : List ℕ) → checkInputFrom least bytes ≡
 unfolding checkInputFrom
 passed least bytes e =
     let c = both (checkContainer bytes) _ e in
-    let d = both (checkDirectory 12 bytes) _ (c .1) in
+    let d = both (checkDirectory 12 (partCount bytes) bytes) _ (c .1) in
     let t = both (checkTables least bytes 1 (partCount bytes - 1)) _ (d .1) in
     record { container = c .0; directory = d .0; tables = t .0; plan = t .1 }

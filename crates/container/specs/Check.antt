@@ -30,7 +30,7 @@ checkPlanPart bytes = checkPlan (partOf bytes 0) (offsetOf bytes 0) (tableWidths
 unfoldable pub checkInputFrom : ℕ → List ℕ → InputVerdict
 checkInputFrom least bytes =
     andThen (checkContainer bytes)
-    (andThen (checkDirectory 12 bytes)
+    (andThen (checkDirectory 12 (partCount bytes) bytes)
     (andThen (checkTables least bytes 1 (partCount bytes - 1)) (checkPlanPart bytes)))
 
 unfoldable pub checkInput : List ℕ → InputVerdict

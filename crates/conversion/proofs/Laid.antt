@@ -10,14 +10,22 @@ use lib.ListN.{length, take, drop, length-drop}
 use lib.Seq.{length-take-le}
 use borrow.Author.Tests.{eqb-true, le-leb, not-false}
 use Rattle.container.specs.Check.{accepted, checkTables, checkInputFrom}
+use Rattle.conversion.specs.Conversion.{checkBefore}
 use Rattle.directory.specs.Directory.{checkPairs, checkDirectory}
-use Rattle.layout.specs.Layout.{partCount, pairAt, offsetOf, lengthOf, partOf}
+use Rattle.layout.specs.Layout.{partCount, ruleYear, pairAt, offsetOf, lengthOf, partOf}
 use Rattle.table_check.specs.Checks.{checkTable}
 use Rattle.container.proofs.Passed.{passed}
 use Rattle.input.proofs.Laws.{both, not-so, passed as first-passed}
 use Rattle.layout_check.proofs.Sized.{Sized, sized}
 use Rattle.table_check.proofs.Header.{header}
 use Rattle.table_part.specs.TablePart.{cellCount, headerFits}
+
+-- the old check: no rule year, and the checks with 1 as the smallest minimum
+pub before : (bytes : List ℕ) → checkBefore bytes ≡ accepted → (ruleYear bytes ≡ 0) × (checkInputFrom 1 bytes ≡ accepted)
+unfolding checkBefore
+before bytes e =
+    let p = first-passed (not (eqb (ruleYear bytes) 0)) 11 0 _ e in
+    (eqb-true (ruleYear bytes) 0 (not-false _ (p .0)), p .1)
 
 -- the parts stand one after the other, from the directory's end to the container's
 pub record Laid (bytes : List ℕ) : Type 0 where

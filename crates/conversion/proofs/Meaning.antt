@@ -7,7 +7,7 @@ use native.Mathlib.Omega.{arith}
 use lib.ListN.{length, drop, length-append}
 use lib.Seq.{sets-eq}
 use borrow.Author.Tests.{le-leb, lt-leb}
-use Rattle.container.specs.Check.{accepted}
+use Rattle.container.specs.Check.{accepted, checkInputFrom}
 use Rattle.input.specs.Answers.{inputTells, inputRefusalSays}
 use Rattle.input.specs.Verdict.{InputVerdict, rejected}
 use Rattle.input.specs.declared.InputRefusal.{InputRefusal}
@@ -19,12 +19,12 @@ use Rattle.plan.specs.Table.{Each}
 use Rattle.plan.proofs.SenseEach.{each-append}
 use Rattle.input.proofs.Numbers.{input-tells}
 use Rattle.table_part.specs.TablePart.{cellCount}
-use Rattle.conversion.proofs.Laid.{table-laid, laid}
+use Rattle.conversion.proofs.Laid.{before, table-laid, laid}
 use Rattle.conversion.proofs.Ones.{onesOf, ones-few, ones-below, raised-length, raised-front}
 
 -- ---- the offsets of an accepted container lie in it, and there is room for them
 
-module _ (bytes : List ℕ) (e : checkBefore bytes ≡ accepted) where
+module _ (bytes : List ℕ) (e : checkInputFrom 1 bytes ≡ accepted) where
   abbrev Inside : List ℕ → Type 0
   Inside = Each (λ one. one < length bytes)
 
@@ -84,7 +84,7 @@ module _ (bytes new offsets : List ℕ) where
           → Raised (changedLabels bytes) 0 (bytes ++ drop (length bytes) new) offsets found raised told → ended (changed found) raised told ≡ conversion bytes new offsets
       unfolding converted
       converts e r =
-          let i = ones-inside bytes e in
+          let i = ones-inside bytes (before bytes e .1) in
           let front = r .in-new ∙ raised-front bytes (drop (length bytes) new) (changedLabels bytes) (i .0) in
           let told = r .in-offsets ∙ sets-eq (changedLabels bytes) offsets 0 (omega (arith, i .1)) in
           rw (front, told, r .counted, zero-add (length (changedLabels bytes)), raised-length bytes (changedLabels bytes)) refl

@@ -1,17 +1,19 @@
 -- #107: "a conversion program that raises each 1 to 2, leaves all other bytes the same".
 use Prim.Native.Nat.{ℕ, zero, suc, _+_, _-_}
-use mathlib.Core.Bool.{Bool, cond}
+use mathlib.Core.Bool.{Bool, cond, not}
 use mathlib.Core.List.{List, [], _∷_, _++_}
 use lib.Dec.{eqb}
 use lib.ListN.{set}
 use Rattle.container.specs.Check.{InputVerdict, checkInputFrom}
 use Rattle.label_words.specs.Word.{minimumOf}
-use Rattle.layout.specs.Layout.{partCount, offsetOf, partOf}
+use Rattle.input.specs.Verdict.{andThen, rejectIf}
+use Rattle.layout.specs.Layout.{partCount, ruleYear, offsetOf, partOf}
 use Rattle.table_part.specs.TablePart.{cellCount, labelPlace, labelOf}
 
--- "It converts only containers that the old check accepts": the input checks with 1 as the smallest minimum
-abbrev pub checkBefore : List ℕ → InputVerdict
-checkBefore bytes = checkInputFrom 1 bytes
+-- "It converts only containers that the old check accepts": the input checks with 1 as the smallest minimum. They are older than #108, and a high byte
+-- of the part count other than 0 gives 11.
+unfoldable pub checkBefore : List ℕ → InputVerdict
+checkBefore bytes = andThen (rejectIf (not (eqb (ruleYear bytes) 0)) 11 0) (checkInputFrom 1 bytes)
 
 -- whether a label's minimum is a 1
 abbrev pub hasOne : ℕ → Bool

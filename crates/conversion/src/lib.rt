@@ -2,7 +2,9 @@
 mod raising;
 
 ghost use mathlib.Core.Path.{_≡_};
+ghost use Rattle.conversion.specs.Conversion.{checkBefore};
 ghost use Rattle.conversion.specs.Converting.{conversionSays, ended, conversion};
+ghost use Rattle.input.specs.promises.Checks.{inputSays};
 use input::InputCheck;
 use input::InputRefusal;
 
@@ -25,10 +27,20 @@ pub fn convert(container: &[u8], new: &mut [u8], offsets: &mut [u32]) -> Convers
     if offsets.len() < 8192 {
         return ConversionAnswer::TooShort;
     }
-    let found = container::check_input_from(container, 1);
+    let found = check_before(container);
     if let InputCheck::Refused(refusal) = found {
         return ConversionAnswer::Refused(refusal);
     }
     raising::copy(container, new);
     ConversionAnswer::Converted(raising::raise_tables(container, new, offsets))
+}
+
+// The input checks as they were before #107, when no container had a rule year.
+fn check_before(container: &[u8]) -> InputCheck
+    ensures { λ r. ⌜ inputSays r ≡ checkBefore (now (container .entry)) ⌝ }
+{
+    if layout::rule_year(container) != 0 {
+        return InputCheck::Refused(InputRefusal::Container);
+    }
+    container::check_input_from(container, 1)
 }

@@ -7,7 +7,7 @@ use native.Mathlib.Omega.{arith}
 use Rattle.container.specs.Check.{accepted, checkTables, tableWidths, checkPlanPart, checkInputFrom, checkInput}
 use Rattle.container.specs.Contents.{planOf, tablesFrom, inputTables}
 use Rattle.conversion.specs.Conversion.{checkBefore, hasOne, onesAmong, onesFrom, changedLabels, converted}
-use Rattle.conversion.proofs.Laid.{laid, table-passes}
+use Rattle.conversion.proofs.Laid.{before, laid, table-passes}
 use Rattle.container.proofs.Passed.{passed}
 use Rattle.directory.specs.Directory.{checkPairs, checkDirectory}
 use Rattle.input.proofs.Laws.{both}
@@ -19,7 +19,7 @@ use Rattle.table_check.specs.Checks.{checkCells, checkTable}
 use Rattle.table_part.specs.TablePart.{columnsOf, cellCount, labelPlace, labelOf, tableOf}
 use Rattle.conversion_demands.specs.Converted.{AreBytes, ConvertedPasses, TableConverted, ConvertedContents, Differs, OffsetsExact, OffsetsRise, OtherBytesKept, CurrentUnchanged}
 use Rattle.conversion_demands.proofs.Labels.{formed-before}
-use Rattle.conversion_demands.proofs.NewContainer.{same-size, elsewhere, two-there, same-count, same-offset, same-lengthOf, same-plan, label-byte, twin}
+use Rattle.conversion_demands.proofs.NewContainer.{same-size, elsewhere, two-there, same-count, same-year, same-offset, same-lengthOf, same-plan, label-byte, twin}
 use Rattle.conversion_demands.proofs.Stands.{Stands, stands, stands-among, all-rise}
 use Rattle.conversion_demands.proofs.TableParts.{first-is, same-columns, same-label, label-differs, passes-again, table-converted}
 use Rattle.conversion_demands.proofs.TableTests.{tests, tested, next-sound}
@@ -44,19 +44,19 @@ module _ (old new : List ℕ) where
   tables-converted part zero f = none
   tables-converted part (suc n) f = more (f part (omega arith) (omega arith)) (tables-converted (suc part) n (λ k l h. f k (omega arith) (omega arith)))
 
-module _ (bytes : List ℕ) (e : checkBefore bytes ≡ accepted) where
+module _ (bytes : List ℕ) (e : checkInputFrom 1 bytes ≡ accepted) where
   same-pairs : (part n expected : ℕ) → part + n ≤ partCount bytes → checkPairs 12 (converted bytes) part n expected ≡ checkPairs 12 bytes part n expected
   same-pairs part zero expected h = rw (same-size bytes)
   same-pairs part (suc n) expected h =
       rw (same-offset bytes e part (omega arith), same-lengthOf bytes e part (omega arith), same-pairs (suc part) n (expected + lengthOf bytes part) (omega arith))
 
-  same-directory : checkDirectory 12 (converted bytes) ≡ checkDirectory 12 bytes
+  same-directory : checkDirectory 12 (partCount (converted bytes)) (converted bytes) ≡ checkDirectory 12 (partCount bytes) bytes
   unfolding checkDirectory
   same-directory = rw (same-count bytes e) (same-pairs 0 (partCount bytes) (pairAt (partCount bytes)) (omega arith))
 
   same-container : checkContainer (converted bytes) ≡ checkContainer bytes
   unfolding checkContainer
-  same-container = rw (same-size bytes, same-count bytes e)
+  same-container = rw (same-size bytes, same-year bytes e, same-count bytes e)
 
   same-widths : tableWidths (converted bytes) 1 (partCount bytes - 1) ≡ tableWidths bytes 1 (partCount bytes - 1)
   same-widths =
@@ -79,7 +79,8 @@ module _ (bytes : List ℕ) (e : checkBefore bytes ≡ accepted) where
 
 pub converted-passes : ConvertedPasses
 unfolding checkInput checkInputFrom
-converted-passes bytes small e =
+converted-passes bytes small o =
+    let e = before bytes o .1 in
     let f = passed 1 bytes e in
     rw (same-container bytes e ∙ f .container, same-directory bytes e ∙ f .directory, same-plan-part bytes e ∙ f .plan, same-count bytes e, new-tables bytes e small)
 
@@ -87,16 +88,17 @@ converted-passes bytes small e =
 
 pub converted-contents : ConvertedContents
 unfolding planOf inputTables
-converted-contents bytes small e = (
-  rw (same-plan bytes e),
-  rw (same-count bytes e)
-      (tables-converted bytes (converted bytes) 1 (partCount bytes - 1)
-      (of-tables bytes _ (λ table h. table-converted (twin bytes e table h) (small-label bytes e small table h)))),
-)
+converted-contents bytes small o =
+    let e = before bytes o .1 in (
+      rw (same-plan bytes e),
+      rw (same-count bytes e)
+          (tables-converted bytes (converted bytes) 1 (partCount bytes - 1)
+          (of-tables bytes _ (λ table h. table-converted (twin bytes e table h) (small-label bytes e small table h)))),
+    )
 
 -- ---- the offsets
 
-stands-differs : (bytes : List ℕ) → checkBefore bytes ≡ accepted → (offset : ℕ) → Stands bytes offset → Differs bytes offset
+stands-differs : (bytes : List ℕ) → checkInputFrom 1 bytes ≡ accepted → (offset : ℕ) → Stands bytes offset → Differs bytes offset
 stands-differs bytes e offset s =
     let o = s .here in
     record {
@@ -108,7 +110,7 @@ stands-differs bytes e offset s =
       differs = label-differs (twin bytes e (s .table) (s .is-table)) (o .cell) (o .is-cell) (o .one);
     }
 
-differs-stands : (bytes : List ℕ) → checkBefore bytes ≡ accepted → (offset : ℕ) → Differs bytes offset → Stands bytes offset
+differs-stands : (bytes : List ℕ) → checkInputFrom 1 bytes ≡ accepted → (offset : ℕ) → Differs bytes offset → Stands bytes offset
 differs-stands bytes e offset d = record {
   table = d .table;
   is-table = d .is-table;
@@ -123,18 +125,19 @@ differs-stands bytes e offset d = record {
     one false o = absurd (d .differs (same-label (twin bytes e (d .table) (d .is-table)) (d .cell) o))
 
 pub offsets-exact : OffsetsExact
-offsets-exact bytes e offset = (λ a. stands-differs bytes e offset (stands bytes offset a), λ d. stands-among bytes offset (differs-stands bytes e offset d))
+offsets-exact bytes o offset = let e = before bytes o .1 in (λ a. stands-differs bytes e offset (stands bytes offset a), λ d. stands-among bytes offset (differs-stands bytes e offset d))
 
 pub offsets-rise : OffsetsRise
-offsets-rise bytes e = all-rise bytes e
+offsets-rise bytes e = all-rise bytes (before bytes e .1)
 
 -- ---- the bytes
 
 pub other-bytes-kept : OtherBytesKept
-other-bytes-kept bytes small e = record {
+other-bytes-kept bytes small old = record {
   same-length = same-size bytes;
   others = elsewhere bytes;
   changed = λ place a.
+      let e = before bytes old .1 in
       let s = stands bytes place a in
       let o = s .here in
       let part = partOf bytes (1 + s .table) in
@@ -164,8 +167,8 @@ current-tables bytes part (suc n) e =
     (rw (tested 1 p at (record { header = t .header; cells = c .0; sheets = t .sheets })) (l .0), rw (c .1) (l .1))
 
 pub current-unchanged : CurrentUnchanged
-unfolding checkInput checkInputFrom changedLabels converted
-current-unchanged bytes e =
+unfolding checkBefore checkInput checkInputFrom changedLabels converted
+current-unchanged bytes e year =
     let f = passed 2 bytes e in
     let t = current-tables bytes 1 (partCount bytes - 1) (f .tables) in
-    (rw (f .container, f .directory, t .0) (f .plan), t .1, rw (t .1))
+    (rw (year, f .container, f .directory, t .0) (f .plan), t .1, rw (t .1))

@@ -6,11 +6,11 @@ use native.Mathlib.Decide.{decLt}
 use native.Mathlib.Omega.{arith}
 use lib.ListN.{length, take, drop, length-take, length-drop}
 use borrow.Author.Tests.{le-leb}
-use Rattle.container.specs.Check.{accepted}
-use Rattle.conversion.specs.Conversion.{checkBefore, changedLabels, converted}
+use Rattle.container.specs.Check.{accepted, checkInputFrom}
+use Rattle.conversion.specs.Conversion.{changedLabels, converted}
 use Rattle.conversion.proofs.Laid.{laid, part-is}
 use Rattle.conversion.proofs.Ones.{raised-length}
-use Rattle.layout.specs.Layout.{partCount, pairAt, offsetOf, lengthOf, partOf}
+use Rattle.layout.specs.Layout.{partCount, ruleYear, pairAt, offsetOf, lengthOf, partOf}
 use Rattle.little_endian.specs.Bytes.{numberAt, byteAt}
 use Rattle.table_part.specs.TablePart.{cellCount, labelPlace}
 use Rattle.conversion_demands.specs.Converted.{Among}
@@ -27,7 +27,7 @@ pub elsewhere : (bytes : List ℕ) (place : ℕ) → ¬ Among place (changedLabe
 unfolding converted
 elsewhere bytes place n = byte-kept bytes (changedLabels bytes) place n
 
-module _ (bytes : List ℕ) (e : checkBefore bytes ≡ accepted) where
+module _ (bytes : List ℕ) (e : checkInputFrom 1 bytes ≡ accepted) where
   -- a label to be raised is within its part
   within-part : (offset : ℕ) (s : Stands bytes offset)
       → (offsetOf bytes (1 + s .table) ≤ offset) × (offset < offsetOf bytes (1 + s .table) + lengthOf bytes (1 + s .table)) × (offset < length bytes)
@@ -47,13 +47,17 @@ module _ (bytes : List ℕ) (e : checkBefore bytes ≡ accepted) where
       let s = stands bytes offset a in
       omega (arith, within-part offset s .0, in-order (laid 1 bytes e) 0 (1 + s .table) (omega arith) (omega (arith, s .is-table)))
 
+  front-byte : (place : ℕ) → place < pairAt (partCount bytes) → byteAt (converted bytes) place ≡ byteAt bytes place
+  front-byte place h = elsewhere bytes place (λ a. omega (arith, past-plan place a, laid 1 bytes e .first))
+
   front : (at width : ℕ) → at + width ≤ pairAt (partCount bytes) → numberAt (converted bytes) at width ≡ numberAt bytes at width
-  front at width h =
-      same-number (converted bytes) bytes (same-size bytes) at width
-      (λ i k. elsewhere bytes (at + i) (λ a. omega (arith, past-plan (at + i) a, laid 1 bytes e .first)))
+  front at width h = same-number (converted bytes) bytes (same-size bytes) at width (λ i k. front-byte (at + i) (omega arith))
 
   pub same-count : partCount (converted bytes) ≡ partCount bytes
-  same-count = front 0 2 (omega arith)
+  same-count = front-byte 0 (omega arith)
+
+  pub same-year : ruleYear (converted bytes) ≡ ruleYear bytes
+  same-year = front-byte 1 (omega arith)
 
   module _ (part : ℕ) (h : part < partCount bytes) where
     pub same-offset : offsetOf (converted bytes) part ≡ offsetOf bytes part

@@ -6,8 +6,8 @@ use mathlib.Core.List.{List, [], _∷_, _++_}
 use mathlib.Core.Logic.{inl, inr}
 use native.Mathlib.Nat.{zero-add, le-of-eq, eq-or-lt-of-le}
 use native.Mathlib.Omega.{arith}
-use Rattle.container.specs.Check.{accepted}
-use Rattle.conversion.specs.Conversion.{checkBefore, hasOne, oneAt, onesAmong, onesFrom, changedLabels}
+use Rattle.container.specs.Check.{accepted, checkInputFrom}
+use Rattle.conversion.specs.Conversion.{hasOne, oneAt, onesAmong, onesFrom, changedLabels}
 use Rattle.conversion.proofs.Laid.{Laid, laid, table-passes, part-length}
 use Rattle.conversion.proofs.Ones.{ones-more, onesOf, from-more}
 use Rattle.layout.specs.Layout.{partCount, offsetOf, lengthOf, partOf}
@@ -87,7 +87,7 @@ module _ {bytes : List ℕ} (l : Laid bytes) where
         | inr i ↦ omega (arith, in-order part later (omega arith) (omega arith), l .next later k)
       ]
 
-module _ (bytes : List ℕ) (e : checkBefore bytes ≡ accepted) where
+module _ (bytes : List ℕ) (e : checkInputFrom 1 bytes ≡ accepted) where
   -- a label's four bytes are within its part
   pub inside : (table cell : ℕ) → table < partCount bytes - 1 → cell < cellCount (partOf bytes (1 + table)) → labelPlace cell + 4 ≤ lengthOf bytes (1 + table)
   inside table cell h c =

@@ -8,7 +8,7 @@ use Rattle.container.specs.Check.{accepted, checkInput}
 use Rattle.container.specs.Contents.{planOf, inputTables}
 use Rattle.conversion.specs.Conversion.{checkBefore, changedLabels, converted}
 use Rattle.label_words.specs.Word.{fieldAt, minimumOf}
-use Rattle.layout.specs.Layout.{partCount, offsetOf, partOf}
+use Rattle.layout.specs.Layout.{partCount, ruleYear, offsetOf, partOf}
 use Rattle.little_endian.specs.Bytes.{byteAt}
 use Rattle.plan.specs.Secrecy.{Pairwise}
 use Rattle.plan.specs.Sense.Groups.{EachTwo}
@@ -80,6 +80,7 @@ pub record BytesKept (bytes : List ℕ) : Type 0 where
 abbrev pub OtherBytesKept : Type 0
 OtherBytesKept = (bytes : List ℕ) → AreBytes bytes → checkBefore bytes ≡ accepted → BytesKept bytes
 
--- a container without a 1, one that passes the input checks, is accepted by the old check too and comes back byte for byte
+-- a container without a 1 and without a rule year, one that passes the input checks, is accepted by the old check too and comes back byte for byte
 abbrev pub CurrentUnchanged : Type 0
-CurrentUnchanged = (bytes : List ℕ) → checkInput bytes ≡ accepted → (checkBefore bytes ≡ accepted) × (changedLabels bytes ≡ []) × (converted bytes ≡ bytes)
+CurrentUnchanged = (bytes : List ℕ) → checkInput bytes ≡ accepted → ruleYear bytes ≡ 0
+    → (checkBefore bytes ≡ accepted) × (changedLabels bytes ≡ []) × (converted bytes ≡ bytes)

@@ -77,5 +77,5 @@ module _ (plan : List Step) where
   tables-alike table s none = none
   tables-alike table s (more t p) = more (table-alike table (s .0) t) (tables-alike (suc table) (s .1) p)
 
-pub supplies-alike : (a b : Given) → checkGiven a ≡ accepted → AlikeInputs a b → AlikeSupplies (planGiven a) (supplyGiven a) (supplyGiven b)
-supplies-alike a b e alike = record { tables = tables-alike (planGiven a) 0 (overlays-sheets (a .container) (a .overlays) e) (alike .tables); draws = alike .draws }
+pub supplies-alike : (year : ℕ) (a b : Given) → checkGiven a ≡ accepted → AlikeInputs year a b → AlikeSupplies (planGiven a) (supplyGiven year a) (supplyGiven year b)
+supplies-alike year a b e alike = record { tables = tables-alike (planGiven a) 0 (overlays-sheets year (a .container) (a .overlays) e) (alike .tables); draws = alike .draws }

@@ -84,7 +84,7 @@ widths-some : (tables : List Table) → Each (λ table. (1 ≤ table .columns) �
 widths-some [] e = tt
 widths-some (table ∷ tables) e = (e .0 .0, widths-some tables (e .1))
 
-pub top-some : (given : Given) → checkGiven given ≡ accepted → 1 ≤ top (stackLeft (supplyGiven given) [] (planGiven given)) .columns
-top-some given e =
-    left-some (supplyGiven given) [] (planGiven given) (widths-some (prepared given) (prepared-columns given e)) tt
-    (placed-given given e) (operations-exist (given .container) (container-ok given e))
+pub top-some : (year : ℕ) (given : Given) → checkGiven given ≡ accepted → 1 ≤ top (stackLeft (supplyGiven year given) [] (planGiven given)) .columns
+top-some year given e =
+    left-some (supplyGiven year given) [] (planGiven given) (widths-some (prepared year given) (prepared-columns year given e)) tt
+    (placed-given year given e) (operations-exist (given .container) (container-ok given e))

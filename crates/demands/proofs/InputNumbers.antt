@@ -12,8 +12,8 @@ use Rattle.layout_check.specs.Checks.{checkContainer}
 use Rattle.table_check.specs.Checks.{checkCells, checkTable}
 use Rattle.sheet_check.specs.Sheets.{sheetsFit}
 use Rattle.input.specs.Verdict.{InputVerdict, accepted, rejected, andThen, rejectIf}
-use Rattle.layout.specs.Layout.{partCount, pairAt, offsetOf, lengthOf, partOf}
-use Rattle.overlay_check.specs.OverlayCheck.{checkCount, checkPart, checkPartLabels, eachPart, checkOverlay}
+use Rattle.layout.specs.Layout.{partCount, ruleYear, pairAt, offsetOf, lengthOf, partOf}
+use Rattle.overlay_check.specs.OverlayCheck.{overlayCount, checkCount, checkPart, checkPartLabels, eachPart, checkOverlay}
 use Rattle.overlay_part.specs.Labels.{labelFits, checkRow, checkRows, checkLabels}
 use Rattle.overlay_part.specs.OverlayPart.{labelIn, partFits}
 use Rattle.overlay_part.specs.OverlayPart as of-overlay
@@ -99,9 +99,9 @@ input : (least : ℕ) (bytes : List ℕ) → Numbered (checkInputFrom least byte
 unfolding checkInputFrom checkContainer checkDirectory checkPlan
 input least bytes =
     next
-    (ltb 65536 (length bytes) || ltb (length bytes) 2 || not (leb 2 (partCount bytes) && leb (partCount bytes) 9) || ltb (length bytes) (pairAt (partCount bytes)))
+    (ltb 65536 (length bytes) || ltb (length bytes) 2 || ltb 1 (ruleYear bytes) || not (leb 2 (partCount bytes) && leb (partCount bytes) 9) || ltb (length bytes) (pairAt (partCount bytes)))
     11 0 _ (omega arith) (omega arith)
-    (both (checkDirectory 12 bytes) _ (pairs 12 (omega arith) (omega arith) bytes 0 (partCount bytes) (pairAt (partCount bytes)))
+    (both (checkDirectory 12 (partCount bytes) bytes) _ (pairs 12 (omega arith) (omega arith) bytes 0 (partCount bytes) (pairAt (partCount bytes)))
     (both (checkTables least bytes 1 (partCount bytes - 1)) _ (tables least bytes 1 (partCount bytes - 1))
     (next (not (lengthFits (partOf bytes 0))) 16 (offsetOf bytes 0) _ (omega arith) (omega arith)
     (steps (partOf bytes 0) (offsetOf bytes 0) 0 (stepCount (partOf bytes 0)) (tableWidths bytes 1 (partCount bytes - 1)) []))))
@@ -129,16 +129,16 @@ unfolding checkOverlay checkCount checkDirectory checkLabels
 overlay container bytes = go (eqb (length bytes) 0)
   where
     go : (empty : Bool) → OfOverlay (cond empty accepted
-        (andThen (checkCount container bytes) (andThen (checkDirectory 21 bytes) (andThen (eachPart (checkPart container bytes) 0 (partCount bytes)) (eachPart (checkPartLabels bytes) 0 (partCount bytes))))))
+        (andThen (checkCount container bytes) (andThen (checkDirectory 21 (overlayCount bytes) bytes) (andThen (eachPart (checkPart container bytes) 0 (overlayCount bytes)) (eachPart (checkPartLabels bytes) 0 (overlayCount bytes))))))
     go true = no-number
     go false =
         next
-        (ltb 65536 (length bytes) || ltb (length bytes) 2 || not (eqb (partCount bytes + 1) (partCount container)) || ltb (length bytes) (pairAt (partCount bytes)))
+        (ltb 65536 (length bytes) || ltb (length bytes) 2 || not (eqb (overlayCount bytes + 1) (partCount container)) || ltb (length bytes) (pairAt (overlayCount bytes)))
         21 0 _ (omega arith) (omega arith)
-        (both (checkDirectory 21 bytes) _ (pairs 21 (omega arith) (omega arith) bytes 0 (partCount bytes) (pairAt (partCount bytes)))
-        (both (eachPart (checkPart container bytes) 0 (partCount bytes)) _
-        (parts (checkPart container bytes) (λ part. only (not (partFits (partOf container (part + 1)) (partOf bytes part))) 21 (offsetOf bytes part) (omega arith) (omega arith)) 0 (partCount bytes))
-        (parts (checkPartLabels bytes) (λ part. rows (partOf bytes part) (offsetOf bytes part) 0 (rowCount (partOf bytes part))) 0 (partCount bytes))))
+        (both (checkDirectory 21 (overlayCount bytes) bytes) _ (pairs 21 (omega arith) (omega arith) bytes 0 (overlayCount bytes) (pairAt (overlayCount bytes)))
+        (both (eachPart (checkPart container bytes) 0 (overlayCount bytes)) _
+        (parts (checkPart container bytes) (λ part. only (not (partFits (partOf container (part + 1)) (partOf bytes part))) 21 (offsetOf bytes part) (omega arith) (omega arith)) 0 (overlayCount bytes))
+        (parts (checkPartLabels bytes) (λ part. rows (partOf bytes part) (offsetOf bytes part) 0 (rowCount (partOf bytes part))) 0 (overlayCount bytes))))
 
 overlays : (container : List ℕ) (all : List (List ℕ)) → OfOverlay (checkOverlays container all)
 overlays container [] = no-number

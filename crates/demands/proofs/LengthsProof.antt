@@ -1,5 +1,5 @@
 -- Every lent slice keeps its length. Assumes nothing.
-use Prim.Native.Nat.{_≤_}
+use Prim.Native.Nat.{ℕ, _≤_}
 use mathlib.Core.Path.{_≡_, refl}
 use mathlib.Core.Bool.{true, _&&_, and-eq-true-iff}
 use native.Mathlib.Nat.{le-trans}
@@ -9,6 +9,7 @@ use lib.IntN.{pos}
 use lib.ListN.{length, length-map}
 use borrow.Author.Tests.{leb-true}
 use Rattle.plan.specs.Trace.{flatLines}
+use Rattle.demands.specs.Given.{yearGiven}
 use Rattle.demands.specs.Lent.{enough}
 use Rattle.demands.specs.Memory.{SameLengths, LengthsKept}
 use Rattle.demands.specs.Monitor.{evaluation, runOutcome, rowsOut, textOut, leftBy, Begun}
@@ -18,8 +19,11 @@ use Rattle.demands.proofs.Tables.{cells-most, lines-most}
 use Rattle.demands.proofs.Texts.{by-room}
 
 pub lengths-kept : LengthsKept
-lengths-kept given lent = by-cases given lent (λ run. SameLengths lent (run .left)) (λ short. same) (λ n p long check. same) kept
+lengths-kept given lent = by-cases year given lent refl (λ run. SameLengths lent (run .left)) (λ short. same) (λ n p long check. same) kept
   where
+    year : ℕ
+    year = yearGiven given
+
     same : SameLengths lent lent
     same = record { values = refl; labels = refl; marks = refl; output = refl; trace = refl; text = refl }
 
@@ -36,20 +40,20 @@ lengths-kept given lent = by-cases given lent (λ run. SameLengths lent (run .le
         let d = and-eq-true-iff v l .0 (c .0) in
         (leb-true 8192 _ (d .0), leb-true 8192 _ (d .1), leb-true 1024 _ (c .1), leb-true 2048 _ (b .1), leb-true 256 _ (a .1))
 
-    fits : Begun given lent → (length (rowsOut (runOutcome given lent)) ≤ 2048) × (length (textOut (runOutcome given lent)) ≤ length (lent .text))
+    fits : Begun year given lent → (length (rowsOut (runOutcome year given lent)) ≤ 2048) × (length (textOut (runOutcome year given lent)) ≤ length (lent .text))
     fits b =
-        by-room given lent (λ o. (length (rowsOut o) ≤ 2048) × (length (textOut o) ≤ length (lent .text)))
-        (λ table o room. (simp length-map (cells-most given (b .accepted-is) table o), room)) (λ table o short. (omega arith, omega arith))
+        by-room year given lent (λ o. (length (rowsOut o) ≤ 2048) × (length (textOut o) ≤ length (lent .text)))
+        (λ table o room. (simp length-map (cells-most year given (b .accepted-is) table o), room)) (λ table o short. (omega arith, omega arith))
         (λ number step row column o. (omega arith, omega arith))
 
-    kept : Begun given lent → SameLengths lent (leftBy (runOutcome given lent) (evaluation given .trace) lent)
+    kept : Begun year given lent → SameLengths lent (leftBy (runOutcome year given lent) (evaluation year given .trace) lent)
     kept b =
         let h = long (b .long) in
         record {
           values = filled-length 8192 (pos 0) (lent .values) (h .0);
           labels = filled-length 8192 0 (lent .labels) (h .1);
           marks = filled-length 1024 0 (lent .marks) (h .2);
-          output = over-length (rowsOut (runOutcome given lent)) (lent .output) (le-trans (fits b .0) (h .3));
-          trace = over-length (flatLines (evaluation given .trace)) (lent .trace) (le-trans (lines-most given (b .accepted-is)) (h .4));
-          text = over-length (textOut (runOutcome given lent)) (lent .text) (fits b .1);
+          output = over-length (rowsOut (runOutcome year given lent)) (lent .output) (le-trans (fits b .0) (h .3));
+          trace = over-length (flatLines (evaluation year given .trace)) (lent .trace) (le-trans (lines-most year given (b .accepted-is)) (h .4));
+          text = over-length (textOut (runOutcome year given lent)) (lent .text) (fits b .1);
         }

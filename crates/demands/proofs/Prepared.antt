@@ -1,4 +1,4 @@
--- The tables of an accepted input, with its overlays: what holds of the container's holds of them. Assumes nothing.
+-- The tables of an accepted input, with its overlays and under a rule year: what holds of the container's holds of them. Assumes nothing.
 use Prim.Native.Nat.{ℕ, _≤_}
 use mathlib.Core.Path.{_≡_, sym, subst, _∙_}
 use mathlib.Core.List.{List, []}
@@ -36,21 +36,21 @@ shaped-too a b s h = rw (← s .columns) (rows-wide (a .columns) (s .rows) h)
 small-too : (a b : Table) → StricterTables a b → Small a → Small b
 small-too a b s h = rw (← same-length (s .rows)) h
 
-module _ (given : Given) (e : checkGiven given ≡ accepted) where
-  pub stricter : Pairwise StricterTables (tablesOf (given .container)) (prepared given)
-  stricter = overlays-stricter (given .container) (given .overlays) e
+module _ (year : ℕ) (given : Given) (e : checkGiven given ≡ accepted) where
+  pub stricter : Pairwise StricterTables (tablesOf (given .container)) (prepared year given)
+  stricter = overlays-stricter year (given .container) (given .overlays) e
 
-  pub widths-same : widthsOf (tablesOf (given .container)) ≡ widthsOf (prepared given)
+  pub widths-same : widthsOf (tablesOf (given .container)) ≡ widthsOf (prepared year given)
   widths-same = maps-same (λ table. table .columns) (λ a b s. s .columns) stricter
 
-  pub placed-given : Placed (widthsOf (prepared given)) [] (planGiven given)
+  pub placed-given : Placed (widthsOf (prepared year given)) [] (planGiven given)
   placed-given = subst (λ (widths : List ℕ). Placed widths [] (planGiven given)) widths-same (plan-placed (given .container) (container-ok given e))
 
-  pub prepared-shaped : Each Shaped (prepared given)
+  pub prepared-shaped : Each Shaped (prepared year given)
   prepared-shaped = carried Shaped shaped-too stricter (tables-sound (given .container) (container-ok given e) .0)
 
-  pub prepared-small : Each Small (prepared given)
+  pub prepared-small : Each Small (prepared year given)
   prepared-small = carried Small small-too stricter (tables-sound (given .container) (container-ok given e) .1)
 
-  pub prepared-columns : Each (λ table. (1 ≤ table .columns) × (table .columns ≤ 8)) (prepared given)
+  pub prepared-columns : Each (λ table. (1 ≤ table .columns) × (table .columns ≤ 8)) (prepared year given)
   prepared-columns = carried _ (λ a b s h. rw (← s .columns) h) stricter (tables-sound (given .container) (container-ok given e) .2)

@@ -10,6 +10,7 @@ use Rattle.demands.proofs.Runs.{begun-run}
 
 pub secrecy-of-runs : SecrecyOfRuns
 unfolding evaluation runOutcome
-secrecy-of-runs a b in-a in-b alike lent long =
-    let same : evaluation a ≡ evaluation b = secrecy (planGiven a) (supplyGiven a) (supplyGiven b) (supplies-alike a b in-a alike) ∙ ap (λ p. evaluate p (supplyGiven b)) (alike .plans) in
-    rw (begun-run a lent (record { long = long; accepted-is = in-a }), begun-run b lent (record { long = long; accepted-is = in-b }), same, alike .plans)
+secrecy-of-runs year a b in-a in-b alike lent long =
+    let same : evaluation year a ≡ evaluation year b
+    = secrecy (planGiven a) (supplyGiven year a) (supplyGiven year b) (supplies-alike year a b in-a alike) ∙ ap (λ p. evaluate p (supplyGiven year b)) (alike .plans) in
+    rw (begun-run year a lent (record { long = long; accepted-is = in-a; year-is = alike .years .0 }), begun-run year b lent (record { long = long; accepted-is = in-b; year-is = alike .years .1 }), same, alike .plans)

@@ -42,8 +42,8 @@ each-small : (tables : List Table) → Each Held tables → Each Small tables
 each-small = each-weaken Held Small (λ table h. h .small)
 
 -- an accepted container's tables
-tables-held : (given : Given) → checkGiven given ≡ accepted → Each Held (prepared given)
-tables-held given e = all (prepared given) (prepared-shaped given e) (prepared-small given e) (prepared-columns given e)
+tables-held : (year : ℕ) (given : Given) → checkGiven given ≡ accepted → Each Held (prepared year given)
+tables-held year given e = all (prepared year given) (prepared-shaped year given e) (prepared-small year given e) (prepared-columns year given e)
   where
     all : (tables : List Table) → Each Shaped tables → Each Small tables → Each (λ table. (1 ≤ table .columns) × (table .columns ≤ 8)) tables → Each Held tables
     all [] s m w = tt
@@ -93,16 +93,16 @@ trace-length supply step stack (next ∷ later) =
 
 -- ---- an accepted container
 
-module _ (given : Given) (e : checkGiven given ≡ accepted) where
-  module _ (table : Table) (o : evaluation given .outcome ≡ release table) where
+module _ (year : ℕ) (given : Given) (e : checkGiven given ≡ accepted) where
+  module _ (table : Table) (o : evaluation year given .outcome ≡ release table) where
     pub release-held : Held table
     unfolding evaluation evaluate
-    release-held = released-held (supplyGiven given) (tables-held given e) 0 [] (planGiven given) tt (placed-given given e) table o
+    release-held = released-held (supplyGiven year given) (tables-held year given e) 0 [] (planGiven given) tt (placed-given year given e) table o
 
     pub cells-most : length (flat (table .rows)) ≤ 2048
     cells-most =
         le-trans (le-of-eq (flat-length (table .columns) (table .rows) (release-held .shaped))) (mul-le-mul (release-held .small) (release-held .few))
 
-  pub lines-most : length (flatLines (evaluation given .trace)) ≤ 256
+  pub lines-most : length (flatLines (evaluation year given .trace)) ≤ 256
   unfolding evaluation evaluate
-  lines-most = omega (arith, lines-length (evaluation given .trace), trace-length (supplyGiven given) 0 [] (planGiven given), steps-counted (given .container) (container-ok given e))
+  lines-most = omega (arith, lines-length (evaluation year given .trace), trace-length (supplyGiven year given) 0 [] (planGiven given), steps-counted (given .container) (container-ok given e))

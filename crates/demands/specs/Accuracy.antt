@@ -1,4 +1,5 @@
--- Demand 2, accuracy: every released row, trace line, text and refusal equals the evaluation of the plan by the rules.
+-- Demand 2, accuracy: every released row, trace line, text and refusal equals the evaluation of the plan by the rules. #108: "Accuracy is shown over both
+-- years with the year as a parameter".
 use Prim.Native.Nat.{ℕ, _*_, _≤_, _<_}
 use mathlib.Core.Path.{_≡_}
 use mathlib.Core.Bool.{true, false}
@@ -13,7 +14,7 @@ use Rattle.plan.specs.Evaluate.{release, refuse}
 use Rattle.plan.specs.Trace.{flatLines}
 use Rattle.value.specs.Range.{inRange}
 use Rattle.demands.specs.Answers.{released, refusedInput, refusedState}
-use Rattle.demands.specs.Given.{Given, checkGiven, planGiven}
+use Rattle.demands.specs.Given.{Given, checkGiven, planGiven, yearGiven}
 use Rattle.demands.specs.Lent.{Lent, enough}
 use Rattle.demands.specs.Monitor.{evaluation, Begun, monitor}
 
@@ -21,11 +22,15 @@ use Rattle.demands.specs.Monitor.{evaluation, Begun, monitor}
 abbrev pub valuesOf : Table → List ℤ
 valuesOf table = map (λ cell. cell .value) (flat (table .rows))
 
+-- the years: "0 as now, 1 for the floor"
+abbrev pub BegunYears : Type 0
+BegunYears = (year : ℕ) (given : Given) (lent : Lent) → Begun year given lent → year ≤ 1
+
 -- ---- releases
 
 -- what the evaluation releases is released where its text has room: row by row at the output's start, and as text at the start of its slice
 abbrev pub ReleasedIsReleased : Type 0
-ReleasedIsReleased = (given : Given) (lent : Lent) → Begun given lent → (table : Table) → evaluation given .outcome ≡ release table
+ReleasedIsReleased = (year : ℕ) (given : Given) (lent : Lent) → Begun year given lent → (table : Table) → evaluation year given .outcome ≡ release table
     → length (tableText table) ≤ length (lent .text)
     → (monitor given lent .answer ≡ released (length (table .rows)) (table .columns) (length (tableText table)))
     × (monitor given lent .left .output ≡ valuesOf table ++ drop (length (flat (table .rows))) (lent .output))
@@ -34,10 +39,10 @@ ReleasedIsReleased = (given : Given) (lent : Lent) → Begun given lent → (tab
 -- Why so many rows and columns are released with a text of so many bytes, and the output and the text's slice are what they are: the evaluation
 -- releases a table of that size, every cell of it clear and in the value range; the output begins with its values, and the slice with its text,
 -- and "reading it by the same grammar yields the rows in order"; the rest is as it was.
-pub record Released (given : Given) (lent : Lent) (rows columns bytes : ℕ) (output : List ℤ) (text : List ℕ) : Type 0 where
-  pub begun : Begun given lent
+pub record Released (year : ℕ) (given : Given) (lent : Lent) (rows columns bytes : ℕ) (output : List ℤ) (text : List ℕ) : Type 0 where
+  pub begun : Begun year given lent
   pub table : Table
-  pub outcome : evaluation given .outcome ≡ release table
+  pub outcome : evaluation year given .outcome ≡ release table
   pub as-many-rows : length (table .rows) ≡ rows
   pub as-many-columns : table .columns ≡ columns
   pub shaped : Shaped table
@@ -48,36 +53,38 @@ pub record Released (given : Given) (lent : Lent) (rows columns bytes : ℕ) (ou
   pub text-read : reader.readText 1 (take bytes text) ≡ reader.table columns (valueRows table)
 
 abbrev pub ReleaseMeans : Type 0
-ReleaseMeans = (given : Given) (lent : Lent) (rows columns bytes : ℕ) → monitor given lent .answer ≡ released rows columns bytes
-    → Released given lent rows columns bytes (monitor given lent .left .output) (monitor given lent .left .text)
+ReleaseMeans = (year : ℕ) (given : Given) (lent : Lent) (rows columns bytes : ℕ) → yearGiven given ≡ year
+    → monitor given lent .answer ≡ released rows columns bytes
+    → Released year given lent rows columns bytes (monitor given lent .left .output) (monitor given lent .left .text)
 
 -- ---- refusals because of the state
 
 -- what the evaluation refuses is refused, with that number, at that place
 abbrev pub RefusedIsRefused : Type 0
-RefusedIsRefused = (given : Given) (lent : Lent) → Begun given lent → (number step row column : ℕ) → evaluation given .outcome ≡ refuse number step row column
+RefusedIsRefused = (year : ℕ) (given : Given) (lent : Lent) → Begun year given lent → (number step row column : ℕ) → evaluation year given .outcome ≡ refuse number step row column
     → (monitor given lent .answer ≡ refusedState number step row column) × (monitor given lent .left .output ≡ lent .output)
     × (monitor given lent .left .text ≡ lent .text)
 
 -- what it releases is refused with 51 where the slice is shorter than its text, and only there
 abbrev pub NoRoomIsRefused : Type 0
-NoRoomIsRefused = (given : Given) (lent : Lent) → Begun given lent → (table : Table) → evaluation given .outcome ≡ release table
+NoRoomIsRefused = (year : ℕ) (given : Given) (lent : Lent) → Begun year given lent → (table : Table) → evaluation year given .outcome ≡ release table
     → length (lent .text) < length (tableText table)
     → (monitor given lent .answer ≡ refusedState 51 (length (planGiven given)) 0 0) × (monitor given lent .left .output ≡ lent .output)
     × (monitor given lent .left .text ≡ lent .text)
 
 -- Why there is a refusal with a number at a step, row and column: a slice is too short, which gives 1 at zeros; or the evaluation refuses so,
 -- with 31 to 37; or it releases a table whose text is longer than its slice, which gives 51.
-pub data Refused (given : Given) (lent : Lent) : ℕ → ℕ → ℕ → ℕ → Type 0 where
-  short : enough lent ≡ false → Refused given lent 1 0 0 0
-  evaluated : {number step row column : ℕ} → Begun given lent → evaluation given .outcome ≡ refuse number step row column
-      → 31 ≤ number → number ≤ 37 → Refused given lent number step row column
-  no-room : {table : Table} → Begun given lent → evaluation given .outcome ≡ release table → length (lent .text) < length (tableText table)
-      → Refused given lent 51 (length (planGiven given)) 0 0
+pub data Refused (year : ℕ) (given : Given) (lent : Lent) : ℕ → ℕ → ℕ → ℕ → Type 0 where
+  short : enough lent ≡ false → Refused year given lent 1 0 0 0
+  evaluated : {number step row column : ℕ} → Begun year given lent → evaluation year given .outcome ≡ refuse number step row column
+      → 31 ≤ number → number ≤ 37 → Refused year given lent number step row column
+  no-room : {table : Table} → Begun year given lent → evaluation year given .outcome ≡ release table → length (lent .text) < length (tableText table)
+      → Refused year given lent 51 (length (planGiven given)) 0 0
 
 abbrev pub RefusalMeans : Type 0
-RefusalMeans = (given : Given) (lent : Lent) (number step row column : ℕ) → monitor given lent .answer ≡ refusedState number step row column
-    → Refused given lent number step row column
+RefusalMeans = (year : ℕ) (given : Given) (lent : Lent) (number step row column : ℕ) → yearGiven given ≡ year
+    → monitor given lent .answer ≡ refusedState number step row column
+    → Refused year given lent number step row column
 
 -- ---- refusals because of the input
 
@@ -101,5 +108,5 @@ InputRefusalMeans = (given : Given) (lent : Lent) (number place : ℕ) → monit
 
 -- the trace lines of the finished steps stand at the trace's start
 abbrev pub TraceIsTrace : Type 0
-TraceIsTrace = (given : Given) (lent : Lent) → Begun given lent
-    → monitor given lent .left .trace ≡ flatLines (evaluation given .trace) ++ drop (length (flatLines (evaluation given .trace))) (lent .trace)
+TraceIsTrace = (year : ℕ) (given : Given) (lent : Lent) → Begun year given lent
+    → monitor given lent .left .trace ≡ flatLines (evaluation year given .trace) ++ drop (length (flatLines (evaluation year given .trace))) (lent .trace)

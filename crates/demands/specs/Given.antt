@@ -2,7 +2,9 @@
 use Prim.Native.Nat.{ℕ}
 use mathlib.Core.List.{List, [], _∷_}
 use lib.IntN.{ℤ}
+use Rattle.floors.specs.Floors.{underYear}
 use Rattle.input.specs.Verdict.{InputVerdict}
+use Rattle.layout.specs.Layout.{ruleYear}
 use Rattle.container.specs.Contents.{planOf, inputTables}
 use Rattle.overlays.specs.Overlays.{checkAll, withOverlays}
 use Rattle.plan.specs.Sheets.{InputTable, allWithMarks}
@@ -27,17 +29,21 @@ given container draws overlay₀ overlay₁ overlay₂ overlay₃ = record {
 abbrev pub checkGiven : Given → InputVerdict
 checkGiven given = checkAll (given .container) (given .overlays)
 
--- the plan, and the tables that it is evaluated over: the container's with the overlays composed onto their labels, "before step 0", and those with the
--- marks of their rows (#103)
+-- the plan, and the rule year (#108)
 abbrev pub planGiven : Given → List Step
 planGiven given = planOf (given .container)
 
-abbrev pub tablesGiven : Given → List InputTable
-tablesGiven given = withOverlays (given .overlays) (inputTables (given .container))
+abbrev pub yearGiven : Given → ℕ
+yearGiven given = ruleYear (given .container)
 
-abbrev pub prepared : Given → List Table
-prepared given = allWithMarks 0 (tablesGiven given)
+-- the tables that the plan is evaluated over under a rule year: the container's with the overlays composed onto their labels, "before step 0" (#106), these
+-- labels as the year reads them, "after overlays are composed" (#108), and the tables with the marks of their rows (#103)
+abbrev pub tablesGiven : ℕ → Given → List InputTable
+tablesGiven year given = underYear year (withOverlays (given .overlays) (inputTables (given .container)))
+
+abbrev pub prepared : ℕ → Given → List Table
+prepared year given = allWithMarks 0 (tablesGiven year given)
 
 -- these tables and the draws
-abbrev pub supplyGiven : Given → Supply
-supplyGiven given = supplied (prepared given) (given .draws)
+abbrev pub supplyGiven : ℕ → Given → Supply
+supplyGiven year given = supplied (prepared year given) (given .draws)

@@ -34,7 +34,7 @@ pub record Zeroed (lent left : Lent) : Type 0 where
   pub marks-past : drop 1024 (left .marks) ≡ drop 1024 (lent .marks)
 
 abbrev pub BegunLeavesZero : Type 0
-BegunLeavesZero = (given : Given) (lent : Lent) → Begun given lent → Zeroed lent (monitor given lent .left)
+BegunLeavesZero = (year : ℕ) (given : Given) (lent : Lent) → Begun year given lent → Zeroed lent (monitor given lent .left)
 
 -- every slice keeps its length
 pub record SameLengths (lent left : Lent) : Type 0 where

@@ -13,12 +13,12 @@ use Rattle.plan.specs.Trace.{Line, flatLines}
 use Rattle.csv_text.specs.Text.{tableText}
 use Rattle.zeros.specs.Zeros.{filled}
 use Rattle.demands.specs.Answers.{Told, released, refusedInput, refusedState}
-use Rattle.demands.specs.Given.{Given, checkGiven, planGiven, supplyGiven}
+use Rattle.demands.specs.Given.{Given, checkGiven, planGiven, yearGiven, supplyGiven}
 use Rattle.demands.specs.Lent.{Lent, enough}
 
--- the evaluation of the plan
-unfoldable pub evaluation : Given → Result
-evaluation given = evaluate (planGiven given) (supplyGiven given)
+-- the evaluation of the plan under a rule year
+unfoldable pub evaluation : ℕ → Given → Result
+evaluation year given = evaluate (planGiven given) (supplyGiven year given)
 
 -- Change request #101: "It refuses with 51 when that slice is shorter than the text, after the run's own refusals; the slice is unchanged, all
 -- else and the step are as for 35, row and column 0."
@@ -27,8 +27,8 @@ withText steps room (release table) = cond (leb (length (tableText table)) room)
 withText steps room (refuse number step row column) = refuse number step row column
 
 -- what a run comes to: the evaluation's outcome, or 51
-unfoldable pub runOutcome : Given → Lent → Outcome
-runOutcome given lent = withText (length (planGiven given)) (length (lent .text)) (evaluation given .outcome)
+unfoldable pub runOutcome : ℕ → Given → Lent → Outcome
+runOutcome year given lent = withText (length (planGiven given)) (length (lent .text)) (evaluation year given .outcome)
 
 abbrev pub answerOf : Outcome → Told
 answerOf (release table) = released (length (table .rows)) (table .columns) (length (tableText table))
@@ -68,15 +68,16 @@ pub record Run : Type 0 where
 abbrev pub ended : Told → Lent → Run
 ended answer left = record { answer = answer; left = left }
 
-abbrev pub byInput : InputVerdict → Given → Lent → Run
-byInput (rejected number place) given lent = ended (refusedInput number place) lent
-byInput accepted given lent = ended (answerOf (runOutcome given lent)) (leftBy (runOutcome given lent) (evaluation given .trace) lent)
+abbrev pub byInput : InputVerdict → ℕ → Given → Lent → Run
+byInput (rejected number place) year given lent = ended (refusedInput number place) lent
+byInput accepted year given lent = ended (answerOf (runOutcome year given lent)) (leftBy (runOutcome year given lent) (evaluation year given .trace) lent)
 
--- "1 .. First of all checks"; then the input checks; then the evaluation
+-- "1 .. First of all checks"; then the input checks; then the evaluation under the container's rule year
 unfoldable pub monitor : Given → Lent → Run
-monitor given lent = cond (enough lent) (byInput (checkGiven given) given lent) (ended (refusedState 1 0 0 0) lent)
+monitor given lent = cond (enough lent) (byInput (checkGiven given) (yearGiven given) given lent) (ended (refusedState 1 0 0 0) lent)
 
--- a run that is past 1 and past the input checks
-pub record Begun (given : Given) (lent : Lent) : Type 0 where
+-- a run of this year that is past 1 and past the input checks
+pub record Begun (year : ℕ) (given : Given) (lent : Lent) : Type 0 where
   pub long : enough lent ≡ true
   pub accepted-is : checkGiven given ≡ accepted
+  pub year-is : yearGiven given ≡ year

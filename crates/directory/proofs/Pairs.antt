@@ -10,7 +10,7 @@ use lib.Dec.{eqb}
 use lib.ListN.{length}
 use borrow.Author.Tests.{eq-eqb, ne-eqb}
 use Rattle.input.specs.Verdict.{rejected, andThen, rejectIf}
-use Rattle.layout.specs.Layout.{partCount, pairAt, offsetOf, lengthOf}
+use Rattle.layout.specs.Layout.{pairAt, offsetOf, lengthOf}
 use Rattle.directory.specs.Directory.{checkPairs, checkDirectory}
 use Rattle.input.proofs.Laws.{one-left}
 
@@ -20,27 +20,27 @@ pub record Pairs (bytes : List ℕ) (count index place expected : ℕ) : Type 0 
   pub done : index ≤ count
   pub small : expected ≤ 600000 + 4294967296 * index
   pub last : place ≡ pairAt (index - 1)
-  pub left : (number : ℕ) → checkDirectory number bytes ≡ checkPairs number bytes index (count - index) expected
+  pub left : (number : ℕ) → checkDirectory number count bytes ≡ checkPairs number bytes index (count - index) expected
 
-pub begin : (bytes : List ℕ) (count : ℕ) → count < 65536 → count ≡ partCount bytes → Pairs bytes count 0 2 (2 + 8 * count)
+pub begin : (bytes : List ℕ) (count : ℕ) → count < 65536 → Pairs bytes count 0 2 (2 + 8 * count)
 unfolding checkDirectory
-begin bytes count few e = record {
+begin bytes count few = record {
   few = few;
   done = omega arith;
   small = omega arith;
   last = omega arith;
-  left = λ number. rw (e, sub-zero (partCount bytes));
+  left = λ number. rw (sub-zero count);
 }
 
 module _ {bytes : List ℕ} {count index place expected : ℕ} (p : Pairs bytes count index place expected) where
   pair : index < count → (number : ℕ)
-      → checkDirectory number bytes
+      → checkDirectory number count bytes
       ≡ andThen (rejectIf (not (eqb (offsetOf bytes index) expected)) number (pairAt index))
       (checkPairs number bytes (suc index) (count - suc index) (expected + lengthOf bytes index))
   pair h number = p .left number ∙ rw (one-left index count h)
 
   pub misplaced : (x : ℕ) → index < count → x ≡ offsetOf bytes index → (x ≡ expected → ⊥) → (number : ℕ)
-      → rejected number (pairAt index) ≡ checkDirectory number bytes
+      → rejected number (pairAt index) ≡ checkDirectory number count bytes
   misplaced x h e n number = rw (pair h number, ne-eqb (offsetOf bytes index) expected (λ f. n (e ∙ f)))
 
   pub keep : (x n : ℕ) → index < count → x ≡ offsetOf bytes index → x ≡ expected → n ≡ lengthOf bytes index → n < 4294967296
@@ -55,5 +55,5 @@ module _ {bytes : List ℕ} {count index place expected : ℕ} (p : Pairs bytes 
         left = λ number. rw (add-one index, g, pair h number, eq-eqb (offsetOf bytes index) expected (sym e ∙ f));
       }
 
-  pub ended : count ≤ index → (number : ℕ) → checkDirectory number bytes ≡ rejectIf (not (eqb expected (length bytes))) number place
+  pub ended : count ≤ index → (number : ℕ) → checkDirectory number count bytes ≡ rejectIf (not (eqb expected (length bytes))) number place
   ended h number = let z : count - index ≡ 0 = omega arith in p .left number ∙ rw (z, p .last)

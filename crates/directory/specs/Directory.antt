@@ -6,7 +6,7 @@ use mathlib.Core.List.{List}
 use lib.Dec.{eqb}
 use lib.ListN.{length}
 use Rattle.input.specs.Verdict.{InputVerdict, andThen, rejectIf}
-use Rattle.layout.specs.Layout.{partCount, pairAt, offsetOf, lengthOf}
+use Rattle.layout.specs.Layout.{pairAt, offsetOf, lengthOf}
 
 -- "12: a pair breaks the rule above. Place: the first such pair; the last pair if the end is wrong." The number is 12 of a container, 21 of an overlay.
 abbrev pub checkPairs : ℕ → List ℕ → ℕ → ℕ → ℕ → InputVerdict
@@ -15,5 +15,6 @@ checkPairs number bytes part (suc more) expected =
     andThen (rejectIf (not (eqb (offsetOf bytes part) expected)) number (pairAt part))
     (checkPairs number bytes (suc part) more (expected + lengthOf bytes part))
 
-unfoldable pub checkDirectory : ℕ → List ℕ → InputVerdict
-checkDirectory number bytes = checkPairs number bytes 0 (partCount bytes) (pairAt (partCount bytes))
+-- of a directory with so many pairs
+unfoldable pub checkDirectory : ℕ → ℕ → List ℕ → InputVerdict
+checkDirectory number count bytes = checkPairs number bytes 0 count (pairAt count)

@@ -5,7 +5,6 @@ ghost use Rattle.directory.specs.Directory.{checkDirectory};
 ghost use Rattle.directory.specs.promises.Answers.{directorySays};
 use layout::part_length;
 use layout::part_offset;
-use little_endian::two;
 
 // What the check of a directory answers: every pair is right, or the place of the first that is not.
 pub enum DirectoryCheck {
@@ -13,11 +12,11 @@ pub enum DirectoryCheck {
     Wrong(usize),
 }
 
-// Whether each part begins where the one before it ends, the first where the directory ends, and the last ends the bytes.
-pub fn check_directory(bytes: &[u8]) -> DirectoryCheck
-    ensures { λ r. ⌜ ((number : ℕ) → directorySays number r ≡ checkDirectory number (now (bytes .entry))) ⌝ }
+// Whether each of so many parts begins where the one before it ends, the first where the directory ends, and the last ends the bytes.
+pub fn check_directory(bytes: &[u8], parts: u16) -> DirectoryCheck
+    ensures { λ r. ⌜ ((number : ℕ) → directorySays number r ≡ checkDirectory number parts (now (bytes .entry))) ⌝ }
 {
-    let count = two(bytes, 0) as usize;
+    let count = parts as usize;
     let mut expected = 2 + 8 * count;
     let mut place = 2;
     let mut index = 0;

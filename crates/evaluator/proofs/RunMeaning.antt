@@ -13,7 +13,7 @@ use Rattle.input.specs.Answers.{inputTells}
 use Rattle.input.specs.Verdict.{rejected}
 use Rattle.input.specs.declared.InputRefusal.{InputRefusal}
 use Rattle.demands.specs.Answers.{Told, refusedInput, refusedState}
-use Rattle.demands.specs.Given.{Given, checkGiven, planGiven}
+use Rattle.demands.specs.Given.{Given, yearGiven, checkGiven, planGiven}
 use Rattle.demands.specs.Lent.{Lent, lent, enough}
 use Rattle.demands.specs.Monitor.{evaluation, withText, runOutcome, ended, monitor}
 use Rattle.evaluator.proofs.Ends.{Ends}
@@ -47,7 +47,7 @@ filled-same {A} count x old new e = filled-is count x new ∙ ap (λ (l : List A
 -- what a run comes to, as the answer, the output and the text have it, after a walk
 pub record Evaluated (given : Given) (w : Memory) (o : List ℤ) (t x : List ℕ) (told : Told) (w₁ : Memory) (o₁ : List ℤ) (t₁ x₁ : List ℕ) : Type 0 where
   pub stepped : Stepped given w t w₁ t₁
-  pub ends : Ends (withText (length (planGiven given)) (length x) (evaluation given .outcome)) o x told o₁ x₁
+  pub ends : Ends (withText (length (planGiven given)) (length x) (evaluation (yearGiven given) given .outcome)) o x told o₁ x₁
 
 -- the slices of a run whose work memory this is
 abbrev lentOf : Memory → List ℤ → List ℕ → List ℕ → Lent
@@ -93,7 +93,7 @@ module _ (given : Given) (w : Memory) (o : List ℤ) (t x : List ℕ) where
 
     -- the table that is left has a column
     some-columns : {steps rows columns : ℕ} → Walked given w t (Finished steps rows columns) w₁ t₁ → 1 ≤ columns
-    some-columns s = rw (s .1 .table-is) at (top-some given (s .0 .accepted-is))
+    some-columns s = rw (s .1 .table-is) at (top-some (yearGiven given) given (s .0 .accepted-is))
 
     -- what a walk needs is still there
     still-long : Stepped given w t w₁ t₁ → (room ≤ length (w₁ .work .values)) × (room ≤ length (w₁ .work .labels)) × (markRoom ≤ length (w₁ .marks))
@@ -134,4 +134,4 @@ module _ (given : Given) (w : Memory) (o : List ℤ) (t x : List ℕ) where
           answer = e .ends .told-is i;
           left = record { values = vs i; labels = ls i; marks = ms i; output = e .ends .output-is i; trace = s .traced i; text = e .ends .text-is i };
         })
-        ∙ sym (begun-run given lends (record { long = long-is; accepted-is = s .accepted-is }))
+        ∙ sym (begun-run (yearGiven given) given lends (record { long = long-is; accepted-is = s .accepted-is; year-is = refl }))

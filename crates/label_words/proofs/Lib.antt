@@ -1,5 +1,5 @@
 -- What the proofs share, and for the proofs of other crates to cite.
 pub mod Below
-mod Masks
+pub mod Masks
 pub mod Packed
 pub mod Words

@@ -118,12 +118,12 @@ unfolding few
 digits-lack d h = same _ _ (below 8 few tt d h)
 
 -- the bit of stage A and the minimum below it, as one number
-bit-and-minimum : (word : ℕ) → bitAnd word 0x200003FF ≡ fieldAt word 29 1 * 2 ^ 29 + minimumOf word
+pub bit-and-minimum : (word : ℕ) → bitAnd word 0x200003FF ≡ fieldAt word 29 1 * 2 ^ 29 + minimumOf word
 unfolding kept
 bit-and-minimum word = mask-is word ((10, false) ∷ (19, true) ∷ (1, false) ∷ []) ∙ omega arith
 
 -- with the bit turned round it is below the least where the stage is present and the minimum below that
-turned : (b m least : ℕ) → b < 2 → m < 1024 → least < 2 ^ 29 → ltb (bitXor (b * 2 ^ 29 + m) (1 * 2 ^ 29 + 0)) least ≡ (eqb b 1 && ltb m least)
+pub turned : (b m least : ℕ) → b < 2 → m < 1024 → least < 2 ^ 29 → ltb (bitXor (b * 2 ^ 29 + m) (1 * 2 ^ 29 + 0)) least ≡ (eqb b 1 && ltb m least)
 turned zero m least h k l = rw (xor-block 29 0 1 m 0 (omega arith) (omega arith), xor-zero-r m, le-ltb (1 * 2 ^ 29 + m) least (omega arith))
 turned (suc zero) m least h k l = let z : 0 * 2 ^ 29 + m ≡ m = omega arith in rw (xor-block 29 1 1 m 0 (omega arith) (omega arith), xor-zero-r m, z)
 turned (suc (suc b)) m least h k l = absurd (omega (arith, h))

@@ -1,13 +1,18 @@
--- "First a 16-bit part count, 2 to 9, then a directory with one pair per part, 32-bit offset and 32-bit length".
+-- "First a 16-bit part count, 2 to 9, then a directory with one pair per part, 32-bit offset and 32-bit length". #108: "The high byte of the part count
+-- becomes the rule year".
 use Prim.Native.Nat.{ℕ, _+_, _*_}
 use mathlib.Core.Bool.{cond}
 use mathlib.Core.List.{List, []}
 use lib.Dec.{leb}
 use lib.ListN.{length, take, drop}
-use Rattle.little_endian.specs.Bytes.{numberAt}
+use Rattle.little_endian.specs.Bytes.{numberAt, byteAt}
 
 abbrev pub partCount : List ℕ → ℕ
-partCount bytes = numberAt bytes 0 2
+partCount bytes = byteAt bytes 0
+
+-- which rule of group minima holds (#108 coins the word)
+abbrev pub ruleYear : List ℕ → ℕ
+ruleYear bytes = byteAt bytes 1
 
 -- the place of a pair
 abbrev pub pairAt : ℕ → ℕ

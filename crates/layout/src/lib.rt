@@ -1,17 +1,24 @@
-// The container's layout: its part count, and where each part stands by its pair of the directory.
+// The container's layout: its part count and rule year, and where each part stands by its pair of the directory.
 ghost use mathlib.Core.Path.{_≡_};
 ghost use Prim.Native.Nat.{_+_, _≤_, min};
 ghost use lib.Dec.{leb};
-ghost use Rattle.layout.specs.Layout.{partCount, pairAt, offsetOf, lengthOf, partOf};
+ghost use Rattle.layout.specs.Layout.{partCount, ruleYear, pairAt, offsetOf, lengthOf, partOf};
 ghost use Rattle.little_endian.specs.Bytes.{numberAt};
+use little_endian::byte;
 use little_endian::four;
-use little_endian::two;
 
 // How many parts a container says that it has.
 pub fn part_count(container: &[u8]) -> usize
     ensures { λ r. ⌜ r ≡ partCount (now (container .entry)) ⌝ }
 {
-    two(container, 0) as usize
+    byte(container, 0) as usize
+}
+
+// The rule year of a container.
+pub fn rule_year(container: &[u8]) -> u8
+    ensures { λ r. ⌜ r ≡ ruleYear (now (container .entry)) ⌝ }
+{
+    byte(container, 1)
 }
 
 // The number of four bytes in the pair of a part, `from` bytes after its begin. A pair past the end has zeros.

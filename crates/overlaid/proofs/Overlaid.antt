@@ -1,4 +1,4 @@
--- The tables of an accepted container with accepted overlays. Assumes nothing.
+-- The tables of an accepted container with accepted overlays, under a rule year. Assumes nothing.
 use Prim.Native.Nat.{ℕ, zero, suc, _+_, _-_}
 use mathlib.Core.Path.{_≡_, refl, ap, ap₂}
 use mathlib.Core.Bool.{Bool, true, false, cond, not, _||_, true≢false}
@@ -15,9 +15,9 @@ use Rattle.directory.specs.Directory.{checkDirectory}
 use Rattle.input.specs.Verdict.{accepted}
 use Rattle.input.proofs.Laws.{both, not-so}
 use Rattle.layout.specs.Layout.{partCount, partOf}
-use Rattle.overlay_check.specs.OverlayCheck.{checkCount, checkPart, checkPartLabels, eachPart, checkOverlay}
+use Rattle.overlay_check.specs.OverlayCheck.{overlayCount, checkCount, checkPart, checkPartLabels, eachPart, checkOverlay}
 use Rattle.overlays.specs.Overlays.{checkOverlays, checkAll, overlaidFrom, withOverlay, withOverlays}
-use Rattle.overlaid.specs.Overlaid.{OverlaysStricter, OverlaysFormed, OverlaysSheets}
+use Rattle.overlaid.specs.Overlaid.{under, OverlaysStricter, WithoutLessStrict, EarlierLessStrict, OverlaysFormed, OverlaysSheets}
 use Rattle.plan.specs.Secrecy.{Pairwise, none, more}
 use Rattle.plan.specs.Sheets.{InputTable, markOf, marksFrom, marksOf, withMarks, allWithMarks}
 use Rattle.plan.specs.Table.{Cell, Each, blank, rowsOf}
@@ -25,7 +25,7 @@ use Rattle.plan.proofs.Pairs.{both-take, both-drop, same-length}
 use Rattle.strictness.specs.Strictness.{StricterCells, StricterRows, StricterTables}
 use Rattle.table_part.specs.TablePart.{tableOf}
 use Rattle.value.specs.Pattern.{magnitudeOf}
-use Rattle.overlaid.proofs.Tables.{FormedCell, StricterInputs, Whole, itself, then, Wholes, over-tables}
+use Rattle.overlaid.proofs.Tables.{FormedCell, StricterInputs, Whole, itself, then, Wholes, over-tables, floor-tables, floor-both, earlier-tables}
 
 -- ---- the checks
 
@@ -39,18 +39,18 @@ overlays-accepted container overlays e = both (checkInput container) _ e .1
 
 -- an overlay that is there and was let through: as many parts as tables, each passed by 21 and by 22
 pub record OverlayPassed (container overlay : List ℕ) : Type 0 where
-  pub counted : partCount overlay + 1 ≡ partCount container
-  pub parts : eachPart (checkPart container overlay) 0 (partCount overlay) ≡ accepted
-  pub labels : eachPart (checkPartLabels overlay) 0 (partCount overlay) ≡ accepted
+  pub counted : overlayCount overlay + 1 ≡ partCount container
+  pub parts : eachPart (checkPart container overlay) 0 (overlayCount overlay) ≡ accepted
+  pub labels : eachPart (checkPartLabels overlay) 0 (overlayCount overlay) ≡ accepted
 
 or-false : (a b : Bool) → (a || b) ≡ false → (a ≡ false) × (b ≡ false)
 or-false true b e = absurd (true≢false e)
 or-false false b e = (refl, e)
 
-count-right : (container overlay : List ℕ) → checkCount container overlay ≡ accepted → partCount overlay + 1 ≡ partCount container
+count-right : (container overlay : List ℕ) → checkCount container overlay ≡ accepted → overlayCount overlay + 1 ≡ partCount container
 unfolding checkCount
 count-right container overlay e =
-    let counted = eqb (partCount overlay + 1) (partCount container) in
+    let counted = eqb (overlayCount overlay + 1) (partCount container) in
     let o = or-false (ltb 65536 (length overlay) || ltb (length overlay) 2 || not counted) _ (not-so _ 21 0 e) in
     eqb-true _ _ (not-false counted (or-false (ltb 65536 (length overlay) || ltb (length overlay) 2) (not counted) (o .0) .1))
 
@@ -58,8 +58,8 @@ pub overlay-passed : (container overlay : List ℕ) → eqb (length overlay) 0 �
 unfolding checkOverlay
 overlay-passed container overlay some e =
     let c = both (checkCount container overlay) _ (rw some at e) in
-    let d = both (checkDirectory 21 overlay) _ (c .1) in
-    let p = both (eachPart (checkPart container overlay) 0 (partCount overlay)) _ (d .1) in
+    let d = both (checkDirectory 21 (overlayCount overlay) overlay) _ (c .1) in
+    let p = both (eachPart (checkPart container overlay) 0 (overlayCount overlay)) _ (d .1) in
     record { counted = count-right container overlay (c .0); parts = p .0; labels = p .1 }
 
 -- ---- one overlay after the other
@@ -87,7 +87,7 @@ module _ (container : List ℕ) where
       go true f = (all-themselves container 1 tables (r .wholes), r)
       go false f =
           let p = overlay-passed container overlay f e in
-          let n : partCount overlay ≡ length tables = omega (arith, p .counted, r .as-many) in
+          let n : overlayCount overlay ≡ length tables = omega (arith, p .counted, r .as-many) in
           let over = over-tables container overlay 0 tables (rw n at (p .parts)) (rw n at (p .labels)) (r .wholes) in
           (over .0, record { as-many = omega (arith, same-length (over .0), r .as-many); wholes = over .1 })
 
@@ -121,16 +121,19 @@ module _ (container : List ℕ) (overlays : List (List ℕ)) (e : checkAll conta
   pub overlaid-so : Pairwise StricterInputs (inputTables container) (withOverlays overlays (inputTables container)) × Ready container (withOverlays overlays (inputTables container))
   overlaid-so = with-all container overlays (overlays-accepted container overlays e) (inputTables container) (tables-ready container (container-accepted container overlays e))
 
+  floored-so : (year : ℕ) → Pairwise StricterInputs (withOverlays overlays (inputTables container)) (under year container overlays) × Wholes container 1 (under year container overlays)
+  floored-so year = floor-tables year container 1 (withOverlays overlays (inputTables container)) (overlaid-so .1 .wholes)
+
 each-whole : (container : List ℕ) (P : InputTable → Type 0) → ((part : List ℕ) (table : InputTable) → Whole part table → P table)
     → (part : ℕ) (tables : List InputTable) → Wholes container part tables → Each P tables
 each-whole container P f part [] w = tt
 each-whole container P f part (table ∷ rest) w = (f (partOf container part) table (w .0), each-whole container P f (suc part) rest (w .1))
 
 pub overlays-formed : OverlaysFormed
-overlays-formed container overlays e = each-whole container _ (λ part table w. w .formed) 1 (withOverlays overlays (inputTables container)) (overlaid-so container overlays e .1 .wholes)
+overlays-formed year container overlays e = each-whole container _ (λ part table w. w .formed) 1 (under year container overlays) (floored-so container overlays e year .1)
 
 pub overlays-sheets : OverlaysSheets
-overlays-sheets container overlays e = each-whole container _ (λ part table w. w .sound) 1 (withOverlays overlays (inputTables container)) (overlaid-so container overlays e .1 .wholes)
+overlays-sheets year container overlays e = each-whole container _ (λ part table w. w .sound) 1 (under year container overlays) (floored-so container overlays e year .1)
 
 -- ---- the marks
 
@@ -167,4 +170,11 @@ tables-stricter table (more s p) = more (table-stricter table s) (tables-stricte
 
 pub overlays-stricter : OverlaysStricter
 unfolding tablesOf
-overlays-stricter container overlays e = tables-stricter 0 (overlaid-so container overlays e .0)
+overlays-stricter year container overlays e = tables-stricter 0 (all-then (overlaid-so container overlays e .0) (floored-so container overlays e year .0))
+
+pub without-less-strict : WithoutLessStrict
+without-less-strict year container overlays e = tables-stricter 0 (floor-both year (overlaid-so container overlays e .0))
+
+pub earlier-less-strict : EarlierLessStrict
+earlier-less-strict year container overlays e =
+    rw (earlier-tables (withOverlays overlays (inputTables container))) (tables-stricter 0 (floored-so container overlays e year .0))

@@ -1,8 +1,8 @@
--- One overlay that was let through, composed onto tables of the container. Assumes nothing.
+-- One overlay that was let through, composed onto tables of the container, and a rule year's floor. Assumes nothing.
 use Prim.Native.Nat.{ℕ, zero, suc, _+_, _-_, _*_, _<_}
 use mathlib.Core.Path.{_≡_, refl, sym, ap, ap₂, _∙_}
 use mathlib.Core.Bool.{true, false, not, _&&_, and-eq-true-iff}
-use mathlib.Core.List.{List, [], _∷_}
+use mathlib.Core.List.{List, [], _∷_, map}
 use native.Mathlib.Nat.{add-zero, add-suc, suc-add, mul-le-mul-right}
 use native.Mathlib.Numerals.{add-one}
 use native.Mathlib.Omega.{arith}
@@ -10,9 +10,12 @@ use lib.Dec.{eqb}
 use lib.ListN.{length, getD}
 use borrow.Author.Tests.{eqb-true, not-false}
 use Rattle.accepted.specs.Accepted.{SheetsSound}
+use Rattle.floor_laws.proofs.AboutFloor.{earlier-rule, floor-well-formed, floor-above, floor-monotone, floor-clear}
+use Rattle.floors.specs.Floors.{flooredCell, flooredTable, underYear}
 use Rattle.input.specs.Verdict.{accepted}
 use Rattle.input.proofs.Laws.{both, not-so}
 use Rattle.label_composition.specs.Composition.{composed}
+use Rattle.label_floor.specs.Floor.{floored}
 use Rattle.label_laws.proofs.Laws.{compose-well-formed, compose-clear, zero-well-formed}
 use Rattle.label_laws.proofs.OrderProof.{reflexive, transitive, composed-above}
 use Rattle.layout.specs.Layout.{offsetOf, partOf}
@@ -23,6 +26,7 @@ use Rattle.overlays.specs.Overlays.{overlaidFrom}
 use Rattle.plan.specs.Secrecy.{Pairwise, none, more}
 use Rattle.plan.specs.Sheets.{InputTable}
 use Rattle.plan.specs.Table.{Cell, Each, blank, clear}
+use Rattle.plan.proofs.Pairs.{same-length, both-map}
 use Rattle.strictness.specs.Strictness.{StricterCells}
 use Rattle.table_part.specs.TablePart.{columnsOf, sheetsOf, rowCount}
 use Rattle.overlaid.proofs.Parts.{Formed, labelsFrom, rows-formed, rows-sheet}
@@ -174,3 +178,75 @@ module _ (container overlay : List ℕ) where
         more (over-stricter (partOf container (suc index)) (partOf overlay index) passes table (w .0)) (r .0),
         (over-whole (partOf container (suc index)) (partOf overlay index) passes table (w .0), r .1),
       )
+
+-- ---- the floor
+
+module _ (year : ℕ) where
+  floor-cells : (cells : List Cell) → Each FormedCell cells
+      → Pairwise StricterCells cells (map (flooredCell year) cells) × Each FormedCell (map (flooredCell year) cells)
+  floor-cells [] f = (none, tt)
+  floor-cells (next ∷ rest) f =
+      let w = floor-well-formed year (next .label) (f .0) in
+      let r = floor-cells rest (f .1) in
+      (more record { value = refl; labels = record { well-formed = f .0; strict = floor-above year (next .label) } } (r .0), (w, r .1))
+
+  -- a clear cell stays, whatever its place
+  floor-at : (cells : List Cell) (i : ℕ) → clear (getD cells i blank .label) ≡ true → getD (map (flooredCell year) cells) i blank ≡ getD cells i blank
+  floor-at [] i c = refl
+  floor-at (next ∷ rest) zero c = ap (λ (l : ℕ). record { value = next .value; label = l }) (clear-stays (next .label) (eqb-true _ 0 c))
+    where
+      clear-stays : (label : ℕ) → label ≡ 0 → floored year label ≡ label
+      clear-stays label e = ap (floored year) e ∙ floor-clear year ∙ sym e
+  floor-at (next ∷ rest) (suc i) c = floor-at rest i c
+
+  pub floor-stricter : {part : List ℕ} {table : InputTable} → Whole part table → StricterInputs table (flooredTable year table)
+  unfolding flooredTable
+  floor-stricter {table = table} w = record { columns = refl; sheets = refl; rows = refl; cells = floor-cells (table .cells) (w .formed) .0 }
+
+  pub floor-whole : {part : List ℕ} {table : InputTable} → Whole part table → Whole part (flooredTable year table)
+  unfolding flooredTable
+  floor-whole {table = table} w = record {
+    columns = w .columns;
+    sheets = w .sheets;
+    rows = w .rows;
+    formed = floor-cells (table .cells) (w .formed) .1;
+    sound = record {
+      within = w .sound .within;
+      whole = sym (same-length (floor-cells (table .cells) (w .formed) .0)) ∙ w .sound .whole;
+      clear-cells = λ column s row h.
+          let k = w .sound .clear-cells column s row h in
+          rw (floor-at (table .cells) (row * table .columns + column) (k .0)) k;
+    };
+  }
+
+  pub floor-tables : (container : List ℕ) (part : ℕ) (tables : List InputTable) → Wholes container part tables
+      → Pairwise StricterInputs tables (underYear year tables) × Wholes container part (underYear year tables)
+  floor-tables container part [] w = (none, tt)
+  floor-tables container part (table ∷ rest) w =
+      let r = floor-tables container (suc part) rest (w .1) in
+      (more (floor-stricter (w .0)) (r .0), (floor-whole (w .0), r .1))
+
+  -- stricter tables are stricter under the floor too
+  pub floor-both : {xs ys : List InputTable} → Pairwise StricterInputs xs ys → Pairwise StricterInputs (underYear year xs) (underYear year ys)
+  unfolding flooredTable
+  floor-both none = none
+  floor-both (more s p) = more record { columns = s .columns; sheets = s .sheets; rows = s .rows; cells = both-map (flooredCell year) (flooredCell year) stricter (s .cells) } (floor-both p)
+    where
+      stricter : (a b : Cell) → StricterCells a b → StricterCells (flooredCell year a) (flooredCell year b)
+      stricter a b c = record {
+        value = c .value;
+        labels = record { well-formed = floor-well-formed year (a .label) (c .labels .well-formed); strict = floor-monotone year (a .label) (b .label) (c .labels .strict) };
+      }
+
+-- under year 0 every label is read as it is
+pub earlier-tables : (tables : List InputTable) → underYear 0 tables ≡ tables
+unfolding flooredTable
+earlier-tables [] = refl
+earlier-tables (table ∷ rest) = ap₂ _∷_ (same-table table) (earlier-tables rest)
+  where
+    same-cells : (cells : List Cell) → map (flooredCell 0) cells ≡ cells
+    same-cells [] = refl
+    same-cells (cell ∷ rest) = ap₂ _∷_ (ap (λ (l : ℕ). record { value = cell .value; label = l }) (earlier-rule (cell .label))) (same-cells rest)
+
+    same-table : (table : InputTable) → flooredTable 0 table ≡ table
+    same-table table = ap (λ (l : List Cell). record { columns = table .columns; sheets = table .sheets; rows = table .rows; cells = l }) (same-cells (table .cells))

@@ -1,4 +1,4 @@
--- SCAN, and then the overlays: the table with composed labels. Assumes nothing.
+-- SCAN, then the overlays, then the floor: the table that the plan is evaluated over. Assumes nothing.
 use Prim.Native.Nat.{ℕ, zero, suc, _+_, _-_, _*_, _≤_, _<_}
 use mathlib.Core.Path.{_≡_, refl, sym, ap, ap₂, subst, _∙_}
 use mathlib.Core.Bool.{Bool, true, false, cond}
@@ -7,7 +7,7 @@ use native.Mathlib.Nat.{add-zero, add-suc, suc-add, zero-add}
 use native.Mathlib.Omega.{arith}
 use lib.Dec.{eqb}
 use lib.IntN.{ℤ}
-use lib.ListN.{length, getD, drop}
+use lib.ListN.{length, getD, take, drop}
 use borrow.Author.Tests.{le-leb, lt-ltb}
 use Rattle.accepted.proofs.AcceptedTables.{marks-length}
 use Rattle.cells.specs.promises.Work.{Memory, memoryOf, cellsIn, room, markRoom, Kept, AllKept}
@@ -15,6 +15,7 @@ use Rattle.cells.proofs.CellLaws.{cells-length, kept-none, kept-then, marks-non
 use Rattle.cells.proofs.Rows.{marked-length}
 use Rattle.container.specs.Check.{checkInput}
 use Rattle.container.specs.Contents.{inputTables, tablesOf}
+use Rattle.floors.specs.Floors.{flooredTable, underYear}
 use Rattle.input.specs.Verdict.{InputVerdict, accepted}
 use Rattle.input.proofs.Laws.{both}
 use Rattle.layout.specs.Layout.{partCount, partOf}
@@ -24,13 +25,13 @@ use Rattle.memory.specs.declared.Stepped.{Stepped}
 use Rattle.memory.specs.promises.Stack.{Ready, slot, markSlot, markPart, liveAt, liveTable, tableIn, tablesTo, stackIn, withTable}
 use Rattle.memory.specs.promises.Steps.{TableMade}
 use Rattle.memory.proofs.Stacks.{Lengths, Below, is-ready, marks-count, tables-same}
-use Rattle.overlay_check.specs.OverlayCheck.{checkPart, checkPartLabels, eachPart, checkOverlay}
+use Rattle.overlay_check.specs.OverlayCheck.{overlayCount, checkPart, checkPartLabels, eachPart, checkOverlay}
 use Rattle.overlay_part.specs.OverlayPart.{overlaid}
 use Rattle.overlay_reader.specs.promises.Composing.{afterOverlay}
-use Rattle.overlaying.specs.promises.Overlaying.{afterOverlays}
+use Rattle.overlaying.specs.promises.Overlaying.{afterOverlays, afterReading}
 use Rattle.overlays.specs.Overlays.{checkOverlays, checkAll, overlaidFrom, withOverlay, withOverlays}
 use Rattle.overlaid.proofs.Overlaid.{container-accepted, overlays-accepted, overlay-passed, tables-ready, overlays-stricter}
-use Rattle.overlaid.proofs.Tables.{Whole, Wholes, PartPassed, part-passed, over-whole}
+use Rattle.overlaid.proofs.Tables.{Whole, Wholes, PartPassed, part-passed, over-whole, floor-whole}
 use Rattle.overlaid_scan.specs.Scanned.{MadeOverlaid}
 use Rattle.plan.specs.Scan.{scanned}
 use Rattle.plan.specs.Secrecy.{none}
@@ -42,7 +43,7 @@ use Rattle.plan.specs.declared.Step.{Step}
 use Rattle.plan.specs.declared.Step.the-variants.{Scan, Union, Join, Filter, Keep, Apply, Group, Noise}
 use Rattle.plan.proofs.Pairs.{same-length, both-get}
 use Rattle.strictness.specs.Strictness.{StricterTables}
-use Rattle.overlaid_scan.proofs.Composed.{one-composed}
+use Rattle.overlaid_scan.proofs.Composed.{Changed, one-composed, one-floored}
 
 -- ---- one table of those with overlays
 
@@ -95,6 +96,15 @@ marked-at table [] t h = absurd (omega arith)
 marked-at table (input ∷ rest) zero h = rw (add-zero table)
 marked-at table (input ∷ rest) (suc t) h = rw (add-suc table t ∙ sym (suc-add table t)) (marked-at (suc table) rest t (omega arith))
 
+under-length : (year : ℕ) (tables : List InputTable) → length (underYear year tables) ≡ length tables
+under-length year [] = refl
+under-length year (table ∷ rest) = ap suc (under-length year rest)
+
+under-at : (year : ℕ) (tables : List InputTable) (t : ℕ) → t < length tables → getD (underYear year tables) t noInput ≡ flooredTable year (getD tables t noInput)
+under-at year [] t h = absurd (omega arith)
+under-at year (table ∷ rest) zero h = refl
+under-at year (table ∷ rest) (suc t) h = under-at year rest t (omega arith)
+
 whole-at : (container : List ℕ) (part : ℕ) (tables : List InputTable) → Wholes container part tables → (t : ℕ) → t < length tables
     → Whole (partOf container (part + t)) (getD tables t noInput)
 whole-at container part [] w t h = absurd (omega arith)
@@ -112,9 +122,9 @@ passed-at : (container overlay : List ℕ) → eqb (length overlay) 0 ≡ false 
     → PartPassed (partOf container (suc t)) (partOf overlay t)
 passed-at container overlay some e t h =
     let p = overlay-passed container overlay some e in
-    let few : t < partCount overlay = omega (arith, p .counted, h) in
-    part-passed container overlay t (rw (zero-add t) at (each-at (checkPart container overlay) 0 (partCount overlay) (p .parts) t few))
-    (rw (zero-add t) at (each-at (checkPartLabels overlay) 0 (partCount overlay) (p .labels) t few))
+    let few : t < overlayCount overlay = omega (arith, p .counted, h) in
+    part-passed container overlay t (rw (zero-add t) at (each-at (checkPart container overlay) 0 (overlayCount overlay) (p .parts) t few))
+    (rw (zero-add t) at (each-at (checkPartLabels overlay) 0 (overlayCount overlay) (p .labels) t few))
 
 -- what stays as it was when the labels of a slot's table change
 record Relabelled (index : ℕ) (before after : Memory) : Type 0 where
@@ -140,6 +150,21 @@ record Stands (m : Memory) (index columns rows table : ℕ) (p : List ℕ) (inpu
   count : length (input .cells) ≡ rows * columns
   is : tableIn m index columns rows ≡ withMarks table input
 
+-- the labels of that table have changed
+stood : {m m′ : Memory} {index columns rows table : ℕ} {p : List ℕ} {input other : InputTable} → Stands m index columns rows table p input → Whole p other
+    → m′ .work .values ≡ m .work .values → m′ .marks ≡ m .marks → Changed m m′ index columns rows table other
+    → Stands m′ index columns rows table p other × Relabelled index m m′
+stood {index = index} s w v k c = (
+  record {
+    values-room = rw v (s .values-room);
+    labels-room = omega (arith, s .labels-room, c .kept .as-many-labels);
+    whole = w;
+    count = c .count;
+    is = c .is;
+  },
+  record { below = record { cells = c .below; marks = ap (take (markSlot index)) k }; kept = c .kept; cells-long = c .cells-long },
+)
+
 module _ (container : List ℕ) (table : ℕ) (there : table < partCount container - 1) (index columns rows : ℕ) (low : index < 3) (few : rows ≤ 256) (narrow : columns ≤ 8) where
   abbrev p : List ℕ
   p = partOf container (suc table)
@@ -164,16 +189,8 @@ module _ (container : List ℕ) (table : ℕ) (there : table < partCount contain
       go true f = rw (none-there overlay f m) (s, unchanged index m)
       go false f =
           let passes = passed-at container overlay f e table there in
-          let c = one-composed m index columns rows low few narrow (s .values-room) (s .labels-room) marks table p input (s .whole) (s .is) overlay f passes (s .count) in (
-            record {
-              values-room = s .values-room;
-              labels-room = omega (arith, s .labels-room, c .3 .as-many-labels);
-              whole = over-whole p (partOf overlay table) passes input (s .whole);
-              count = c .1;
-              is = c .0;
-            },
-            record { below = record { cells = c .2; marks = refl }; kept = c .3; cells-long = c .4 },
-          )
+          let c = one-composed m index columns rows low few narrow (s .values-room) (s .labels-room) marks table p input (s .whole) (s .is) (s .count) overlay f passes in
+          stood s (over-whole p (partOf overlay table) passes input (s .whole)) refl refl c
 
   all : (overlays : List (List ℕ)) → checkOverlays container overlays ≡ accepted → (m : Memory) → markRoom ≤ length (m .marks) → (input : InputTable) → Stands m index columns rows table p input
       → let m′ = memoryOf (m .work .values) (afterOverlays overlays table live (m .work .labels)) (m .marks) in
@@ -184,6 +201,17 @@ module _ (container : List ℕ) (table : ℕ) (there : table < partCount contain
       let first = one overlay (b .0) m marks input s in
       let later = all rest (b .1) (after-one overlay m) marks (onto overlay table input) (first .0) in
       (later .0, and-again (first .1) (later .1))
+
+  -- and the floor after them
+  read : (year : ℕ) (overlays : List (List ℕ)) → checkOverlays container overlays ≡ accepted → (m : Memory) → markRoom ≤ length (m .marks) → (input : InputTable) → Stands m index columns rows table p input
+      → let m′ = memoryOf (m .work .values) (afterReading year overlays table live (m .work .labels)) (m .marks) in
+      Stands m′ index columns rows table p (flooredTable year (ontoAll overlays table input)) × Relabelled index m m′
+  read year overlays e m marks input s =
+      let over = all overlays e m marks input s in
+      let t = over .0 in
+      let c = one-floored _ index columns rows low few narrow (t .values-room) (t .labels-room) marks table p (ontoAll overlays table input) (t .whole) (t .is) (t .count) year in
+      let floor = stood t (floor-whole year (t .whole)) refl refl c in
+      (floor .0, and-again (over .1) (floor .1))
 
 -- ---- the step
 
@@ -200,7 +228,7 @@ same-made step supply other before after stack done e t = record {
 all-kept : (m : Memory) → AllKept m m
 all-kept m = record { work = kept-none (m .work); marks = marks-none (m .marks) }
 
-module _ (container : List ℕ) (overlays : List (List ℕ)) (ok : checkAll container overlays ≡ accepted) (table : ℕ) (there : table < partCount container - 1) where
+module _ (year : ℕ) (container : List ℕ) (overlays : List (List ℕ)) (ok : checkAll container overlays ≡ accepted) (table : ℕ) (there : table < partCount container - 1) where
   abbrev inputs : List InputTable
   inputs = inputTables container
 
@@ -213,21 +241,25 @@ module _ (container : List ℕ) (overlays : List (List ℕ)) (ok : checkAll cont
   inside : table < length inputs
   inside = omega (arith, there, tables-ready container ready .as-many)
 
-  -- what SCAN makes of the container's tables, and of those with overlays
+  abbrev under : List InputTable
+  under = underYear year (withOverlays overlays inputs)
+
+  -- what SCAN makes of the container's tables, and of those with overlays and the floor
   plain : getD (tablesOf container) table noTable ≡ withMarks table input
   unfolding tablesOf
   plain = marked-at 0 inputs table inside ∙ rw (zero-add table)
 
-  strict : getD (allWithMarks 0 (withOverlays overlays inputs)) table noTable ≡ withMarks table (ontoAll overlays table input)
+  strict : getD (allWithMarks 0 under) table noTable ≡ withMarks table (flooredTable year (ontoAll overlays table input))
   strict =
-      marked-at 0 (withOverlays overlays inputs) table (omega (arith, inside, all-length overlays inputs)) ∙ rw (zero-add table)
-      (ap (withMarks table) (all-at overlays inputs table inside))
+      let long : table < length (withOverlays overlays inputs) = omega (arith, inside, all-length overlays inputs) in
+      marked-at 0 under table (omega (arith, long, under-length year (withOverlays overlays inputs))) ∙ rw (zero-add table)
+      (ap (withMarks table) (under-at year (withOverlays overlays inputs) table long ∙ ap (flooredTable year) (all-at overlays inputs table inside)))
 
   whole : Whole (partOf container (suc table)) input
   whole = let n : 1 + table ≡ suc table = omega arith in rw n at (whole-at container 1 inputs (tables-ready container ready .wholes) table inside)
 
-  same-shape : StricterTables (getD (tablesOf container) table noTable) (getD (allWithMarks 0 (withOverlays overlays inputs)) table noTable)
-  same-shape = both-get table noTable (record { columns = refl; rows = none }) (overlays-stricter container overlays ok)
+  same-shape : StricterTables (getD (tablesOf container) table noTable) (getD (allWithMarks 0 under) table noTable)
+  same-shape = both-get table noTable (record { columns = refl; rows = none }) (overlays-stricter year container overlays ok)
 
   -- the table in a slot is SCAN's
   module _ (m : Memory) (index columns rows : ℕ) (low : index < 3) (few : rows ≤ 256) (marks : markRoom ≤ length (m .marks)) (e : tableIn m index columns rows ≡ withMarks table input) where
@@ -256,8 +288,8 @@ module _ (container : List ℕ) (overlays : List (List ℕ)) (ok : checkAll cont
       (t : TableMade (Scan table) (supplied (tablesOf container) draws) before stack done after) where
     abbrev Overlaid : LiveTable → Type 0
     Overlaid live =
-        let m = memoryOf (after .work .values) (afterOverlays overlays table live (after .work .labels)) (after .marks) in
-        TableMade (Scan table) (supplied (allWithMarks 0 (withOverlays overlays inputs)) draws) before stack done m × AllKept after m
+        let m = memoryOf (after .work .values) (afterReading year overlays table live (after .work .labels)) (after .marks) in
+        TableMade (Scan table) (supplied (allWithMarks 0 under) draws) before stack done m × AllKept after m
 
     fit : Ready (length (after .work .values)) (length (after .work .labels)) (done .stack)
     fit = is-ready _ _ (done .stack) (t .still)
@@ -284,9 +316,9 @@ module _ (container : List ℕ) (overlays : List (List ℕ)) (ok : checkAll cont
       unfolding make scanned
       overlaid-so =
           let few = fit .rows index low in
-          let now = all container table there index columns rows low few (fit .columns index low) overlays (overlays-accepted container overlays ok) after marks input
+          let now = read container table there index columns rows low few (fit .columns index low) year overlays (overlays-accepted container overlays ok) after marks input
           (stands after index columns rows low few marks (ap (λ (l : List Table). getD l 0 noTable) stack-tables ∙ plain) (fit .values-room) (fit .labels-room)) in
-          let m = memoryOf (after .work .values) (afterOverlays overlays table (liveAt (done .stack) index) (after .work .labels)) (after .marks) in
+          let m = memoryOf (after .work .values) (afterReading year overlays table (liveAt (done .stack) index) (after .work .labels)) (after .marks) in
           let long : Lengths after m
           = record { cells-room = cells-length (after .work) room (fit .values-room) (fit .labels-room); cells-long = now .1 .cells-long; marks-room = marks; marks-long = refl } in
           let lower = tables-same after m long (done .stack) (done .stack) fit index (omega (arith, low)) (λ i _. refl) (λ i _. refl) (now .1 .below) in (
@@ -307,13 +339,13 @@ module _ (container : List ℕ) (overlays : List (List ℕ)) (ok : checkAll cont
 
 pub made-overlaid : MadeOverlaid
 unfolding make
-made-overlaid container overlays e draws (Scan table) there before after stack done marks t = scan-overlaid container overlays e table there draws before after stack done marks t
-made-overlaid container overlays e draws Union there before after stack done marks t = (same-made Union _ _ before after stack done refl t, all-kept after)
-made-overlaid container overlays e draws (Join left right) there before after stack done marks t = (same-made (Join left right) _ _ before after stack done refl t, all-kept after)
-made-overlaid container overlays e draws (Filter column comparison operand) there before after stack done marks t =
+made-overlaid year container overlays e draws (Scan table) there before after stack done marks t = scan-overlaid year container overlays e table there draws before after stack done marks t
+made-overlaid year container overlays e draws Union there before after stack done marks t = (same-made Union _ _ before after stack done refl t, all-kept after)
+made-overlaid year container overlays e draws (Join left right) there before after stack done marks t = (same-made (Join left right) _ _ before after stack done refl t, all-kept after)
+made-overlaid year container overlays e draws (Filter column comparison operand) there before after stack done marks t =
     (same-made (Filter column comparison operand) _ _ before after stack done refl t, all-kept after)
-made-overlaid container overlays e draws (Keep mask) there before after stack done marks t = (same-made (Keep mask) _ _ before after stack done refl t, all-kept after)
-made-overlaid container overlays e draws (Apply column transform) there before after stack done marks t = (same-made (Apply column transform) _ _ before after stack done refl t, all-kept after)
-made-overlaid container overlays e draws (Group keys aggregate column) there before after stack done marks t =
+made-overlaid year container overlays e draws (Keep mask) there before after stack done marks t = (same-made (Keep mask) _ _ before after stack done refl t, all-kept after)
+made-overlaid year container overlays e draws (Apply column transform) there before after stack done marks t = (same-made (Apply column transform) _ _ before after stack done refl t, all-kept after)
+made-overlaid year container overlays e draws (Group keys aggregate column) there before after stack done marks t =
     (same-made (Group keys aggregate column) _ _ before after stack done refl t, all-kept after)
-made-overlaid container overlays e draws (Noise column) there before after stack done marks t = (same-made (Noise column) _ _ before after stack done refl t, all-kept after)
+made-overlaid year container overlays e draws (Noise column) there before after stack done marks t = (same-made (Noise column) _ _ before after stack done refl t, all-kept after)

@@ -8,15 +8,20 @@ use lib.ListN.{length}
 use Rattle.directory.specs.Directory.{checkDirectory}
 use Rattle.input.specs.Verdict.{InputVerdict, accepted, andThen, rejectIf}
 use Rattle.layout.specs.Layout.{partCount, pairAt, offsetOf, partOf}
+use Rattle.little_endian.specs.Bytes.{numberAt}
 use Rattle.overlay_part.specs.Labels.{checkLabels}
 use Rattle.overlay_part.specs.OverlayPart.{partFits}
+
+-- "a 16-bit count", in which there is no rule year
+abbrev pub overlayCount : List ℕ → ℕ
+overlayCount overlay = numberAt overlay 0 2
 
 -- as 11: "at most 65,536 bytes: a 16-bit count equal to the number of tables, a directory"; the container has one part more, the plan
 unfoldable pub checkCount : List ℕ → List ℕ → InputVerdict
 checkCount container overlay =
     rejectIf
-    (ltb 65536 (length overlay) || ltb (length overlay) 2 || not (eqb (partCount overlay + 1) (partCount container))
-    || ltb (length overlay) (pairAt (partCount overlay)))
+    (ltb 65536 (length overlay) || ltb (length overlay) 2 || not (eqb (overlayCount overlay + 1) (partCount container))
+    || ltb (length overlay) (pairAt (overlayCount overlay)))
     21 0
 
 -- as 13, of one part: part 0 is of the container's part 1, table 0
@@ -37,5 +42,5 @@ unfoldable pub checkOverlay : List ℕ → List ℕ → InputVerdict
 checkOverlay container overlay =
     cond (eqb (length overlay) 0) accepted
     (andThen (checkCount container overlay)
-    (andThen (checkDirectory 21 overlay)
-    (andThen (eachPart (checkPart container overlay) 0 (partCount overlay)) (eachPart (checkPartLabels overlay) 0 (partCount overlay)))))
+    (andThen (checkDirectory 21 (overlayCount overlay) overlay)
+    (andThen (eachPart (checkPart container overlay) 0 (overlayCount overlay)) (eachPart (checkPartLabels overlay) 0 (overlayCount overlay)))))

@@ -1,7 +1,6 @@
 // The checks of an overlay against its container.
 ghost use mathlib.Core.Path.{_≡_};
 ghost use Rattle.input.specs.promises.Checks.{inputSays};
-ghost use Rattle.layout.specs.Layout.{partCount};
 ghost use Rattle.overlay_check.specs.OverlayCheck as spec;
 use directory::DirectoryCheck;
 use directory::check_directory;
@@ -9,6 +8,7 @@ use input::InputCheck;
 use input::InputRefusal;
 use layout::part;
 use layout::part_offset;
+use little_endian::byte;
 use little_endian::two;
 use overlay_part::check_labels;
 use overlay_part::part_fits;
@@ -24,7 +24,7 @@ pub fn check_overlay(container: &[u8], overlay: &[u8]) -> InputCheck
     let InputCheck::Accepted = found else {
         return found;
     };
-    match check_directory(overlay) {
+    match check_directory(overlay, two(overlay, 0)) {
         DirectoryCheck::Right => {}
         DirectoryCheck::Wrong(place) => {
             return InputCheck::Refused(InputRefusal::Overlay(place));
@@ -43,7 +43,7 @@ fn check_count(container: &[u8], overlay: &[u8]) -> InputCheck
 {
     let len = overlay.len();
     let count = two(overlay, 0) as usize;
-    let parts = two(container, 0) as usize;
+    let parts = byte(container, 0) as usize;
     if (65_536 < len) | (len < 2) | !(count + 1 == parts) | (len < 2 + 8 * count) {
         InputCheck::Refused(InputRefusal::Overlay(0))
     } else {
@@ -53,7 +53,7 @@ fn check_count(container: &[u8], overlay: &[u8]) -> InputCheck
 
 // 21 of each part in turn, against its table.
 fn check_parts(container: &[u8], overlay: &[u8]) -> InputCheck
-    ensures { λ r. ⌜ inputSays r ≡ spec.eachPart (spec.checkPart (now (container .entry)) (now (overlay .entry))) 0 (partCount (now (overlay .entry))) ⌝ }
+    ensures { λ r. ⌜ inputSays r ≡ spec.eachPart (spec.checkPart (now (container .entry)) (now (overlay .entry))) 0 (spec.overlayCount (now (overlay .entry))) ⌝ }
 {
     let count = two(overlay, 0) as usize;
     let mut index = 0;
@@ -69,7 +69,7 @@ fn check_parts(container: &[u8], overlay: &[u8]) -> InputCheck
 
 // 22 of each part in turn.
 fn check_part_labels(overlay: &[u8]) -> InputCheck
-    ensures { λ r. ⌜ inputSays r ≡ spec.eachPart (spec.checkPartLabels (now (overlay .entry))) 0 (partCount (now (overlay .entry))) ⌝ }
+    ensures { λ r. ⌜ inputSays r ≡ spec.eachPart (spec.checkPartLabels (now (overlay .entry))) 0 (spec.overlayCount (now (overlay .entry))) ⌝ }
 {
     let count = two(overlay, 0) as usize;
     let mut index = 0;

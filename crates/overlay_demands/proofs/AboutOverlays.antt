@@ -9,7 +9,7 @@ use lib.Dec.{eqb}
 use lib.IntN.{ℤ}
 use lib.ListN.{length}
 use Rattle.container.specs.Check.{checkInput}
-use Rattle.container.specs.Contents.{planOf, inputTables, tablesOf}
+use Rattle.container.specs.Contents.{planOf, inputTables}
 use Rattle.demands.specs.Given.{Given, supplyGiven}
 use Rattle.demands.specs.Monitor.{evaluation, withText, runOutcome, answerOf, rowsOut, textOut, written, Run}
 use Rattle.demands.proofs.AccuracyProof.{release-means}
@@ -18,8 +18,8 @@ use Rattle.input.specs.Verdict.{accepted}
 use Rattle.input.proofs.Laws.{both}
 use Rattle.label_composition.specs.Composition.{composed}
 use Rattle.label_laws.proofs.Laws.{compose-clear}
-use Rattle.layout.specs.Layout.{partOf}
-use Rattle.overlaid.proofs.Overlaid.{container-accepted, overlays-accepted, overlay-passed, Ready, with-all, tables-ready, overlays-stricter}
+use Rattle.layout.specs.Layout.{ruleYear, partOf}
+use Rattle.overlaid.proofs.Overlaid.{container-accepted, overlays-accepted, overlay-passed, Ready, with-all, tables-ready, without-less-strict}
 use Rattle.overlaid.proofs.Tables.{FormedCell, Whole, Wholes}
 use Rattle.overlay_check.specs.OverlayCheck.{checkOverlay}
 use Rattle.overlay_part.specs.OverlayPart.{labelIn, overlaidCells, overlaid}
@@ -65,26 +65,30 @@ module _ (container : List ℕ) (draws : List ℤ) (overlays none : List (List �
   without-ok : checkAll container none ≡ accepted
   without-ok = accepted-with container none (container-accepted container overlays ok) (empty-passes container none empty)
 
-  stricter : StricterSupplies (supplyGiven (with container draws none)) (supplyGiven (with container draws overlays))
-  unfolding tablesOf
-  stricter = record { tables = rw (empty-tables none empty (inputTables container)) (overlays-stricter container overlays ok); draws = refl }
+  abbrev year : ℕ
+  year = ruleYear container
+
+  stricter : StricterSupplies (supplyGiven year (with container draws none)) (supplyGiven year (with container draws overlays))
+  stricter = record { tables = rw (empty-tables none empty (inputTables container)) (without-less-strict year container overlays ok); draws = refl }
 
   -- the same table is released
-  released-too : (table : Table) → evaluation (with container draws overlays) .outcome ≡ release table → evaluation (with container draws none) .outcome ≡ release table
+  released-too : (table : Table) → evaluation year (with container draws overlays) .outcome ≡ release table
+      → evaluation year (with container draws none) .outcome ≡ release table
   unfolding evaluation
-  released-too table o = less-strict-releases (planOf container) (supplyGiven b) (supplyGiven a) stricter table o
+  released-too table o = less-strict-releases (planOf container) (supplyGiven year b) (supplyGiven year a) stricter table o
 
 pub released-without : ReleasedWithout
 unfolding runOutcome
 released-without container draws overlays none empty lent rows columns bytes e =
     let a = with container draws overlays in
     let b = with container draws none in
-    let r = release-means a lent rows columns bytes e in
+    let year = ruleYear container in
+    let r = release-means year a lent rows columns bytes refl e in
     let ok = r .begun .accepted-is in
-    let same : evaluation b .outcome ≡ evaluation a .outcome = released-too container draws overlays none empty ok (r .table) (r .outcome) ∙ sym (r .outcome) in
-    let outcome : runOutcome b lent ≡ runOutcome a lent = ap (withText (length (planOf container)) (length (lent .text))) same in
-    let run-b = begun-run b lent (record { long = r .begun .long; accepted-is = without-ok container draws overlays none empty ok }) in
-    let run-a = begun-run a lent (r .begun) in (
+    let same : evaluation year b .outcome ≡ evaluation year a .outcome = released-too container draws overlays none empty ok (r .table) (r .outcome) ∙ sym (r .outcome) in
+    let outcome : runOutcome year b lent ≡ runOutcome year a lent = ap (withText (length (planOf container)) (length (lent .text))) same in
+    let run-b = begun-run year b lent (record { long = r .begun .long; accepted-is = without-ok container draws overlays none empty ok; year-is = refl }) in
+    let run-a = begun-run year a lent (r .begun) in (
       ap (λ (run : Run). run .answer) run-b ∙ ap answerOf outcome ∙ sym (ap (λ (run : Run). run .answer) run-a) ∙ e,
       ap (λ (run : Run). run .left .output) run-b ∙ ap (λ (o : Outcome). written (rowsOut o) (lent .output)) outcome ∙ sym (ap (λ (run : Run). run .left .output) run-a),
       ap (λ (run : Run). run .left .text) run-b ∙ ap (λ (o : Outcome). written (textOut o) (lent .text)) outcome ∙ sym (ap (λ (run : Run). run .left .text) run-a),

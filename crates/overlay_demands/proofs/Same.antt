@@ -6,7 +6,9 @@ use lib.IntN.{ℤ}
 use Rattle.demands.specs.Given.{Given, checkGiven}
 use Rattle.demands.specs.Lent.{Lent}
 use Rattle.demands.specs.Monitor.{evaluation, runOutcome, monitor}
+use Rattle.floors.specs.Floors.{underYear}
 use Rattle.input.specs.Verdict.{accepted}
+use Rattle.layout.specs.Layout.{ruleYear}
 use Rattle.overlay_demands.specs.Overlays.{with}
 use Rattle.overlays.specs.Overlays.{withOverlays}
 use Rattle.container.specs.Contents.{planOf, inputTables}
@@ -22,11 +24,11 @@ module _ (container : List ℕ) (draws : List ℤ) (overlays others : List (List
   abbrev b : Given
   b = with container draws others
 
-  pub same-evaluation : evaluation (with container draws overlays) ≡ evaluation (with container draws others)
+  pub same-evaluation : (year : ℕ) → evaluation year (with container draws overlays) ≡ evaluation year (with container draws others)
   unfolding evaluation
-  same-evaluation = ap (λ (tables : List InputTable). evaluate (planOf container) (supplied (allWithMarks 0 tables) draws)) e
+  same-evaluation year = ap (λ (tables : List InputTable). evaluate (planOf container) (supplied (allWithMarks 0 (underYear year tables)) draws)) e
 
   pub same-run : checkGiven (with container draws overlays) ≡ accepted → checkGiven (with container draws others) ≡ accepted
       → (lent : Lent) → monitor (with container draws overlays) lent ≡ monitor (with container draws others) lent
   unfolding monitor runOutcome
-  same-run ok too lent = rw (ok, too, same-evaluation)
+  same-run ok too lent = rw (ok, too, same-evaluation (ruleYear container))

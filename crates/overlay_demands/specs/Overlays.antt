@@ -8,7 +8,8 @@ use Rattle.demands.specs.Given.{Given, checkGiven}
 use Rattle.demands.specs.Lent.{Lent}
 use Rattle.demands.specs.Monitor.{monitor}
 use Rattle.input.specs.Verdict.{accepted}
-use Rattle.layout.specs.Layout.{partCount, partOf}
+use Rattle.layout.specs.Layout.{partOf}
+use Rattle.overlay_check.specs.OverlayCheck.{overlayCount}
 use Rattle.overlay_part.specs.OverlayPart.{labelIn}
 use Rattle.plan.specs.Table.{Each}
 
@@ -44,7 +45,7 @@ ReleasedWithout = (container : List ℕ) (draws : List ℤ) (overlays none : Lis
 -- ---- labels of zero
 
 abbrev pub ZeroLabels : List ℕ → Type 0
-ZeroLabels overlay = (part : ℕ) → part < partCount overlay → (cell : ℕ) → labelIn (partOf overlay part) cell ≡ 0
+ZeroLabels overlay = (part : ℕ) → part < overlayCount overlay → (cell : ℕ) → labelIn (partOf overlay part) cell ≡ 0
 
 -- an accepted overlay of zero labels changes nothing: an empty slice in its place gives the same run
 abbrev pub ZeroChangesNothing : Type 0

@@ -24,7 +24,7 @@ use Rattle.group.proofs.Laws.{grouped-labelled}
 use Rattle.noise.proofs.Laws.{noisy-labelled}
 use Rattle.cells.proofs.LabelledTables.{top-labelled, kept-formed, passing-formed}
 use Rattle.plan.proofs.SenseShape.{each-append, each-get, each-cond, each-map}
-use Rattle.demands.specs.Given.{Given, checkGiven, tablesGiven, prepared}
+use Rattle.demands.specs.Given.{Given, yearGiven, checkGiven, tablesGiven, prepared}
 
 -- ---- labels
 
@@ -71,5 +71,5 @@ formed-labelled table [] f = tt
 formed-labelled table (input ∷ rest) f =
     (rows-each Formed (input .columns) (marksOf table input) (input .cells) (f .0), formed-labelled (suc table) rest (f .1))
 
-pub tables-labelled : (given : Given) → checkGiven given ≡ accepted → Each Labelled (prepared given)
-tables-labelled given e = formed-labelled 0 (tablesGiven given) (overlays-formed (given .container) (given .overlays) e)
+pub tables-labelled : (given : Given) → checkGiven given ≡ accepted → Each Labelled (prepared (yearGiven given) given)
+tables-labelled given e = formed-labelled 0 (tablesGiven (yearGiven given) given) (overlays-formed (yearGiven given) (given .container) (given .overlays) e)

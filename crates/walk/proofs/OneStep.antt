@@ -33,7 +33,7 @@ use Rattle.memory.proofs.Finish.{says-is}
 use Rattle.memory.specs.declared.StepAnswer.the-variants.{Made}
 use Rattle.memory.proofs.Stacks.{is-ready, to-ready, stack-length}
 use Rattle.walk_slices.proofs.LineMeaning.{longer}
-use Rattle.demands.specs.Given.{Given, checkGiven, planGiven}
+use Rattle.demands.specs.Given.{Given, yearGiven, checkGiven, planGiven}
 use Rattle.demands.proofs.Prepared.{container-ok}
 
 -- the record at an index of an accepted plan has its step
@@ -58,13 +58,13 @@ module _ {given : Given} (index used : ℕ) {w : Memory} {stack : Stack} (s : St
   pub kept-so : AllKept w w′
   kept-so = t .kept
 
-  -- the table is made, and the overlays are composed onto the labels of one that was scanned
-  module _ (m : done .answer ≡ Made) (many : markRoom ≤ length (w .marks)) {labels : List ℕ} (o : labels ≡ afterStep (given .overlays) known (done .stack) (w′ .work .labels)) where
+  -- the table is made, and the overlays are composed onto the labels of one that was scanned, which are then read under the year
+  module _ (m : done .answer ≡ Made) (many : markRoom ≤ length (w .marks)) {labels : List ℕ} (o : labels ≡ afterStep (yearGiven given) (given .overlays) known (done .stack) (w′ .work .labels)) where
     abbrev left : Memory
     left = memoryOf (w′ .work .values) labels (w′ .marks)
 
     pub done-so : Done (stepNumber given index) (leftGiven given used) w stack done (memoryOf (w′ .work .values) labels (w′ .marks))
-    done-so = taken-done used (stepNumber given index) s taken m many (o ∙ ap (λ (k : Step). afterStep (given .overlays) k (done .stack) (w′ .work .labels)) e)
+    done-so = taken-done used (stepNumber given index) s taken m many (o ∙ ap (λ (k : Step). afterStep (yearGiven given) (given .overlays) k (done .stack) (w′ .work .labels)) e)
 
     allowed : verdict (stepNumber given index) (leftGiven given used) (stackIn w stack) ≡ fine
     allowed = says-is (sym says-so ∙ ap stepSays m)

@@ -38,7 +38,7 @@ use Rattle.noise.proofs.Laws.{noise-fits}
 use Rattle.overlaying.specs.promises.Overlaying.{afterStep}
 use Rattle.plan.proofs.Alike.{never}
 use Rattle.container.specs.Contents.{tablesOf}
-use Rattle.demands.specs.Given.{Given, prepared, supplyGiven}
+use Rattle.demands.specs.Given.{Given, yearGiven, prepared, supplyGiven}
 use Rattle.demands.proofs.Prepared.{container-ok, widths-same}
 use Rattle.overlaid_scan.specs.Scanned.{ScansThere}
 use Rattle.overlaid_scan.proofs.Scanned.{made-overlaid}
@@ -51,8 +51,8 @@ fitted b c e = and-eq-true-iff b c .0 e .1
 there : {given : Given} {table : ℕ} {w : Memory} {stack : Stack} → Steady given (Scan table) w stack → table < partCount (given .container) - 1
 unfolding columnsExist
 there {given} {table} {w} {stack} s =
-    let exist = and-eq-true-iff (columnsExist (Scan table) (widthsOf (prepared given)) (widthsTo stack (stack .depth))) _ .0 (fits-parts (Scan table) (widthsOf (prepared given)) (length (w .work .values)) (length (w .work .labels)) stack (fitted (leb markRoom (length (w .marks))) _ (s .fits-is)) .2) .0 in
-    omega (arith, ltb-true table (length (widthsOf (prepared given))) exist, ap length (widths-same given (s .accepted-is)), length-map (tablesOf (given .container)) (λ table. table .columns), tables-counted (given .container) (container-ok given (s .accepted-is)))
+    let exist = and-eq-true-iff (columnsExist (Scan table) (widthsOf (prepared (yearGiven given) given)) (widthsTo stack (stack .depth))) _ .0 (fits-parts (Scan table) (widthsOf (prepared (yearGiven given) given)) (length (w .work .values)) (length (w .work .labels)) stack (fitted (leb markRoom (length (w .marks))) _ (s .fits-is)) .2) .0 in
+    omega (arith, ltb-true table (length (widthsOf (prepared (yearGiven given) given))) exist, ap length (widths-same (yearGiven given) given (s .accepted-is)), length-map (tablesOf (given .container)) (λ table. table .columns), tables-counted (given .container) (container-ok given (s .accepted-is)))
 
 scans-there : {given : Given} (step : Step) {w : Memory} {stack : Stack} → Steady given step w stack → ScansThere (given .container) step
 scans-there (Scan table) s = there s
@@ -72,11 +72,11 @@ cells-fit {given} {table} s =
     let h = header-means part (found .0) in
     rw (le-leb (columnsOf part) 8 (h .1), le-leb (rowCount part) 256 (h .2), le-leb (sheetsOf part) (columnsOf part) (found .1), le-leb (4 + 12 * cellCount part) (length part) (omega (arith, h .3)))
 
--- with overlays the tables have the widths that they have without
+-- with overlays and under a year the tables have the widths that they have without
 same-fit : {given : Given} (draws : List ℤ) (step : Step) {w : Memory} {stack : Stack} → Steady given step w stack
-    → fitsIn step (supplyOf (given .container) draws) w stack ≡ fitsIn step (supplyGiven given) w stack
+    → fitsIn step (supplyOf (given .container) draws) w stack ≡ fitsIn step (supplyGiven (yearGiven given) given) w stack
 same-fit {given} draws step {w} {stack} s =
-    ap (λ (widths : List ℕ). leb markRoom (length (w .marks)) && fits step widths (length (w .work .values)) (length (w .work .labels)) stack) (widths-same given (s .accepted-is))
+    ap (λ (widths : List ℕ). leb markRoom (length (w .marks)) && fits step widths (length (w .work .values)) (length (w .work .labels)) stack) (widths-same (yearGiven given) given (s .accepted-is))
 
 -- so it asks no more than what every step asks
 steps-fit : {given : Given} (draws : List ℤ) (step : Step) {w : Memory} {stack : Stack} → Steady given step w stack
@@ -121,15 +121,15 @@ module _ {given : Given} (used : ℕ) (step : Step) {w : Memory} {stack : Stack}
 
   -- what it answers
   pub taken-says : stepSays (done .answer) ≡ says (verdict step (leftGiven given used) (stackIn w stack))
-  taken-says = t .answer fit ∙ ap says (same-verdict step (tablesOf (given .container)) (prepared given) draws (stackIn w stack))
+  taken-says = t .answer fit ∙ ap says (same-verdict step (tablesOf (given .container)) (prepared (yearGiven given) given) draws (stackIn w stack))
 
-  -- and with the overlays, where it has made its table
-  pub taken-done : done .answer ≡ Made → markRoom ≤ length (w .marks) → {labels : List ℕ} → labels ≡ afterStep (given .overlays) step (done .stack) (after .work .labels)
+  -- and with the overlays and the floor, where it has made its table
+  pub taken-done : done .answer ≡ Made → markRoom ≤ length (w .marks) → {labels : List ℕ} → labels ≡ afterStep (yearGiven given) (given .overlays) step (done .stack) (after .work .labels)
       → Done step (leftGiven given used) w stack done (memoryOf (after .work .values) labels (after .marks))
   taken-done m room-is e =
       let allowed : verdict step (leftGiven given used) (stackIn w stack) ≡ fine = says-is (sym taken-says ∙ ap stepSays m) in
-      let plain = t .made fit (same-verdict step (tablesOf (given .container)) (prepared given) draws (stackIn w stack) ∙ allowed) in
-      let over = made-overlaid (given .container) (given .overlays) (s .accepted-is) draws step (scans-there step s) w after stack done (omega (arith, room-is, t .kept .marks .as-many)) plain in
+      let plain = t .made fit (same-verdict step (tablesOf (given .container)) (prepared (yearGiven given) given) draws (stackIn w stack) ∙ allowed) in
+      let over = made-overlaid (yearGiven given) (given .container) (given .overlays) (s .accepted-is) draws step (scans-there step s) w after stack done (omega (arith, room-is, t .kept .marks .as-many)) plain in
       rw e (record {
         misfit = λ f. absurd (true≢false (sym (s .fits-is) ∙ f));
         answer = λ _. taken-says;

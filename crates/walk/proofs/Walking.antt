@@ -52,7 +52,7 @@ use Rattle.memory.proofs.Stacks.{is-ready, to-ready, widths-are, stack-length, 
 use Rattle.plan.proofs.SenseNoise.{draws-enough}
 use Rattle.plan.proofs.SenseShape.{each-get}
 use Rattle.trace_lines.proofs.Laws.{lines-length, line-fits, line-behind}
-use Rattle.demands.specs.Given.{Given, checkGiven, planGiven, prepared}
+use Rattle.demands.specs.Given.{Given, yearGiven, checkGiven, planGiven, prepared}
 
 -- ---- lists
 
@@ -115,7 +115,7 @@ evaluate-end supply step stack = refl
 -- what a step uses, of what is left when so many are used
 used-more : (given : Given) (used n : ℕ) → withoutDraws n (leftGiven given used) ≡ leftGiven given (used + n)
 used-more given used n =
-    ap (supplied (prepared given)) (drop-drop n used (given .draws))
+    ap (supplied (prepared (yearGiven given) given)) (drop-drop n used (given .draws))
 
 -- the rows of the table on top, as `live_table` gives them
 pub top-rows : {values labels : ℕ} (w : Memory) (stack : Stack) → Ready values labels stack → markRoom ≤ length (w .marks) → {table : LiveTable} → table ≡ liveTable stack 0 → table .rows ≡ length (top (stackIn w stack) .rows)
@@ -161,7 +161,7 @@ module _ {given : Given} (ok : checkGiven given ≡ accepted) {w₀ : Memory} {t
     lines = [];
     finished = refl;
     traced = refl;
-    places = placed-given given ok;
+    places = placed-given (yearGiven given) given ok;
     drawn = omega arith;
     onward = refl;
     to-come = refl;
@@ -172,7 +172,7 @@ module _ {given : Given} (ok : checkGiven given ≡ accepted) {w₀ : Memory} {t
 
   module _ {index used : ℕ} {w : Memory} {t : List ℕ} {stack : Stack} (g : Going given w₀ t₀ index used w t stack) where
     abbrev tables : List Table
-    tables = prepared given
+    tables = prepared (yearGiven given) given
 
     abbrev supply : Supply
     supply = leftGiven given used
@@ -215,7 +215,7 @@ module _ {given : Given} (ok : checkGiven given ≡ accepted) {w₀ : Memory} {t
           }
 
       -- the evaluation, from this step on
-      evaluates : evaluation given
+      evaluates : evaluation (yearGiven given) given
           ≡ before (g .lines) (ending (verdict next supply live) index (past supply index live next rest))
       evaluates =
           g .onward
@@ -231,9 +231,9 @@ module _ {given : Given} (ok : checkGiven given ≡ accepted) {w₀ : Memory} {t
         pub go-refused : (refusal : Refusal) → given-answer ≡ Refused refusal → Walked given w₀ t₀ (answer.Refused index refusal) w′ t
         go-refused refusal e =
             let v = verdicts refusal in
-            let comes : evaluation given ≡ before (g .lines) (record { outcome = refuse (v .number) index (v .row) (v .column); trace = [] })
+            let comes : evaluation (yearGiven given) given ≡ before (g .lines) (record { outcome = refuse (v .number) index (v .row) (v .column); trace = [] })
             = evaluates ∙ ap (λ (r : Verdict). before (g .lines) (ending r index (past supply index live next rest))) (says-is (sym says-so ∙ ap stepSays e) ∙ v .is) in
-            let traces : evaluation given .trace ≡ g .lines = ap (λ (r : Result). r .trace) comes ∙ before-trace (g .lines) _ ∙ append-nil (g .lines) in (
+            let traces : evaluation (yearGiven given) given .trace ≡ g .lines = ap (λ (r : Result). r .trace) comes ∙ before-trace (g .lines) _ ∙ append-nil (g .lines) in (
               record {
                 long = long;
                 accepted-is = ok;
@@ -301,9 +301,9 @@ module _ {given : Given} (ok : checkGiven given ≡ accepted) {w₀ : Memory} {t
         let depth : stack .depth ≡ 1 = sym (length-map live (λ table. table .columns) ∙ stack-length w stack (stack .depth)) ∙ one in
         let first : left ≡ liveAt stack 0 = l ∙ rw depth in
         let alone : live ≡ tableIn w 0 (left .columns) (left .rows) ∷ [] = ap (tablesTo w stack) depth ∙ ap (λ (t : LiveTable). tableIn w 0 (t .columns) (t .rows) ∷ []) (sym first) in
-        let comes : evaluation given ≡ before (g .lines) (ending (checkRelease (top live)) index (record { outcome = release (top live); trace = [] }))
+        let comes : evaluation (yearGiven given) given ≡ before (g .lines) (ending (checkRelease (top live)) index (record { outcome = release (top live); trace = [] }))
         = g .onward ∙ ap (before (g .lines)) (ap (evaluateFrom supply index live) none ∙ evaluate-end supply index live) in
-        let traces : evaluation given .trace ≡ g .lines
+        let traces : evaluation (yearGiven given) given .trace ≡ g .lines
         = ap (λ (r : Result). r .trace) comes ∙ before-trace (g .lines) _ ∙ ap (λ (lines : List Line). g .lines ++ lines) (end-trace (checkRelease (top live)) index (release (top live))) ∙ append-nil (g .lines) in (
           record {
             long = long;

@@ -17,8 +17,8 @@ use records::Found;
 use walk_slices::has_room;
 use walk_slices::write_step;
 
-// Takes the steps of a container's plan, with draws for its NOISE steps and overlays composed onto its tables' labels, and writes the lines of
-// those that are finished to the trace's start. Work memory and the trace are long enough where they have 8,192 elements, 1,024 marks and 256
+// Takes the steps of a container's plan under its rule year, with draws for its NOISE steps and overlays composed onto its tables' labels, and writes the
+// lines of those that are finished to the trace's start. Work memory and the trace are long enough where they have 8,192 elements, 1,024 marks and 256
 // elements.
 pub fn walk(
     container: &[u8],
@@ -82,6 +82,7 @@ fn take_steps(
     let mut index = 0;
     let mut used = 0;
     while index < count {
+        let year = layout::rule_year(container);
         let next = step_number(container, index);
         let top = memory::live_table(stack, 0);
         let stepped = step::take_step(
@@ -112,6 +113,7 @@ fn take_steps(
             labels,
             stack,
             next,
+            year,
         );
         write_step(labels, trace, stack, index, next);
         used += kinds::draws_used(next, top.rows);

@@ -18,8 +18,8 @@ returns c = short-new _ _ _ (c .if1 .taken)
 returns-2 : tie.Need-returns-2
 returns-2 c = short-offsets _ _ _ (c .before .if1 .left) (c .if2 .taken)
 
-check-input-from-requires : tie.Need-check-input-from-requires
-check-input-from-requires c κs = search needs
+check-before-requires : tie.Need-check-before-requires
+check-before-requires c κs = search needs
 
 enum-known-found : tie.Need-enum-known-found
 enum-known-found c = search needs
@@ -28,7 +28,7 @@ returns-3 : tie.Need-returns-3
 returns-3 c =
     let k = c .before .before .before in
     let long = k .before in
-    refuses _ _ _ (long .before .if1 .left) (long .if2 .left) (c .before .found .given .0 .0) (sym (ap inputSays (c .before .found .given .1)) ∙ k .check-input-from .ensures)
+    refuses _ _ _ (long .before .if1 .left) (long .if2 .left) (c .before .found .given .0 .0) (sym (ap inputSays (c .before .found .given .1)) ∙ k .check-before .ensures)
 
 enum-told : tie.Need-enum-told
 enum-told c = search needs
@@ -38,7 +38,7 @@ copy-requires c κs = search needs
 
 -- the check has accepted the container
 accepts : (c : tie.After-enum-told) → checkBefore (now (c .before .before .before .before .before .before .before .before .args .container)) ≡ accepted
-accepts c = passes _ _ (c .before .before .check-input-from .ensures) (c .enum-told .given .1)
+accepts c = passes _ _ (c .before .before .check-before .ensures) (c .enum-told .given .1)
 
 raise-tables-requires : tie.Need-raise-tables-requires
 raise-tables-requires c κs =
@@ -69,7 +69,7 @@ convert-spec =
     (tie.spec
     returns
     returns-2
-    check-input-from-requires
+    check-before-requires
     enum-known-found
     returns-3
     enum-told

@@ -8,16 +8,10 @@ use Rattle.directory.proofs.check_directory.Statement.{statement}
 use Rattle.directory.proofs.check_directory.Tie as tie
 
 abbrev Inv-loop : tie.InvT-loop
-Inv-loop bytes count expected₀ place₀ index₀ expected place index = Pairs bytes count index place expected
+Inv-loop bytes parts count expected₀ place₀ index₀ expected place index = Pairs bytes count index place expected
 
 abbrev μ-loop : tie.MeasureT-loop
-μ-loop bytes count expected₀ place₀ index₀ expected place index = count - index
-
-two-requires : tie.Need-two-requires Inv-loop μ-loop
-two-requires c κs = search needs
-
-cast-count : tie.Need-cast-count Inv-loop μ-loop
-cast-count c = search needs
+μ-loop bytes parts count expected₀ place₀ index₀ expected place index = count - index
 
 mul-expected : tie.Need-mul-expected Inv-loop μ-loop
 mul-expected c = search needs
@@ -26,7 +20,7 @@ add-expected : tie.Need-add-expected Inv-loop μ-loop
 add-expected c = search needs
 
 loop-holds : tie.Need-loop-holds Inv-loop μ-loop
-loop-holds c = begin _ _ (omega arith) (c .two .ensures)
+loop-holds c = begin _ _ (omega arith)
 
 mul-place : tie.Need-mul-place Inv-loop μ-loop
 mul-place c = search needs
@@ -78,8 +72,6 @@ check-directory-spec =
     (tie.spec
     Inv-loop
     μ-loop
-    two-requires
-    cast-count
     mul-expected
     add-expected
     loop-holds

@@ -6,6 +6,7 @@ use Rattle.directory.specs.Directory.{checkDirectory}
 use Rattle.directory.specs.promises.Answers.{directorySays}
 use Rattle.input.specs.Verdict.{andThen}
 use Rattle.input.proofs.Laws.{stands, passes}
+use Rattle.layout.specs.Layout.{partCount}
 use Rattle.layout_check.specs.Checks.{checkContainer}
 use Rattle.layout_check.proofs.check_layout.Statement.{statement}
 use Rattle.layout_check.proofs.check_layout.Tie as tie
@@ -22,6 +23,12 @@ enum-told-2 c = search needs
 returns : tie.Need-returns
 returns c = rw (← c .before .before .check-container .ensures) (sym (stands (c .before .before .check-container .result) _ (c .enum-told2 .given .1)))
 
+byte-requires : tie.Need-byte-requires
+byte-requires c κs = search needs
+
+cast-check-directory : tie.Need-cast-check-directory
+cast-check-directory c = search needs
+
 check-directory-requires : tie.Need-check-directory-requires
 check-directory-requires c κs = search needs
 
@@ -29,10 +36,11 @@ enum-told-3 : tie.Need-enum-told-3
 enum-told-3 c = search needs
 
 -- where 11 is not said, the directory decides
-by-directory : (c : tie.After-check-directory) → let bytes = now (c .before .before .before .before .before .args .container) in
-    directorySays 12 (c .check-directory .result) ≡ andThen (checkContainer bytes) (checkDirectory 12 bytes)
+by-directory : (c : tie.After-check-directory) → let bytes = now (c .before .before .before .before .before .before .args .container) in
+    directorySays 12 (c .check-directory .result) ≡ andThen (checkContainer bytes) (checkDirectory 12 (partCount bytes) bytes)
 by-directory c =
-    rw (passes _ _ (c .before .before .before .check-container .ensures) (c .before .enum-told .given .1)) (c .check-directory .ensures 12)
+    rw (passes _ _ (c .before .before .before .before .check-container .ensures) (c .before .before .enum-told .given .1), ← c .before .byte .ensures)
+    (c .check-directory .ensures 12)
 
 enum-known-place : tie.Need-enum-known-place
 enum-known-place c = search needs
@@ -51,6 +59,8 @@ check-layout-spec =
     enum-told
     enum-told-2
     returns
+    byte-requires
+    cast-check-directory
     check-directory-requires
     enum-told-3
     enum-known-place

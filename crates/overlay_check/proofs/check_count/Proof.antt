@@ -10,8 +10,8 @@ two-requires c κs = search needs
 cast-count : tie.Need-cast-count
 cast-count c = search needs
 
-two-requires-2 : tie.Need-two-requires-2
-two-requires-2 c κs = search needs
+byte-requires : tie.Need-byte-requires
+byte-requires c κs = search needs
 
 cast-parts : tie.Need-cast-parts
 cast-parts c = search needs
@@ -27,11 +27,11 @@ add-if1-2 c = search needs
 
 returns : tie.Need-returns
 unfolding checkCount
-returns c = rw (← c .before .before .two .ensures, ← c .before .two2 .ensures, c .if1 .taken)
+returns c = rw (← c .before .before .two .ensures, ← c .before .byte .ensures, c .if1 .taken)
 
 returns-2 : tie.Need-returns-2
 unfolding checkCount
-returns-2 c = rw (← c .before .before .two .ensures, ← c .before .two2 .ensures, c .if1 .left)
+returns-2 c = rw (← c .before .before .two .ensures, ← c .before .byte .ensures, c .if1 .left)
 
 pub check-count-spec : {M : Type 1} → statement M
 check-count-spec =
@@ -39,7 +39,7 @@ check-count-spec =
     (tie.spec
     two-requires
     cast-count
-    two-requires-2
+    byte-requires
     cast-parts
     add-if1
     mul-if1

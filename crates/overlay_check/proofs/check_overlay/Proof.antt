@@ -10,7 +10,7 @@ use Rattle.directory.specs.Directory.{checkDirectory}
 use Rattle.directory.specs.promises.Answers.{directorySays}
 use Rattle.input.specs.Verdict.{accepted}
 use Rattle.input.proofs.Laws.{stands, passes}
-use Rattle.overlay_check.specs.OverlayCheck.{checkCount, checkOverlay}
+use Rattle.overlay_check.specs.OverlayCheck.{overlayCount, checkCount, checkOverlay}
 use Rattle.overlay_check.proofs.check_overlay.Statement.{statement}
 use Rattle.overlay_check.proofs.check_overlay.Tie as tie
 
@@ -30,8 +30,13 @@ counted c = passes _ _ (c .before .before .check-count .ensures) (c .enum-told .
 abbrev looked : tie.After-enum-told3 → tie.After-check-directory
 looked c = c .before .before
 
-right : (c : tie.After-enum-told3) → checkDirectory 21 (now (looked c .before .before .before .before .before .before .before .args .overlay)) ≡ accepted
-right c = sym (looked c .check-directory .ensures 21) ∙ ap (directorySays 21) (c .enum-told3 .given .1)
+by-directory : (c : tie.After-check-directory) → let overlay = now (c .before .before .before .before .before .before .before .before .args .overlay) in
+    directorySays 21 (c .check-directory .result) ≡ checkDirectory 21 (overlayCount overlay) overlay
+by-directory c = rw (← c .before .two .ensures) (c .check-directory .ensures 21)
+
+right : (c : tie.After-enum-told3) → let overlay = now (looked c .before .before .before .before .before .before .before .before .args .overlay) in
+    checkDirectory 21 (overlayCount overlay) overlay ≡ accepted
+right c = sym (by-directory (looked c)) ∙ ap (directorySays 21) (c .enum-told3 .given .1)
 
 check-count-requires : tie.Need-check-count-requires
 check-count-requires c κs = search needs
@@ -48,6 +53,9 @@ returns-2 c =
     let k = c .before .before in
     rw (some (k .before), ← k .check-count .ensures) (sym (stands (k .check-count .result) _ (c .enum-told2 .given .1)))
 
+two-requires : tie.Need-two-requires
+two-requires c κs = search needs
+
 check-directory-requires : tie.Need-check-directory-requires
 check-directory-requires c κs = search needs
 
@@ -61,7 +69,7 @@ returns-3 : tie.Need-returns-3
 unfolding checkOverlay
 returns-3 c =
     let d = c .before .before .before in
-    rw (some (d .before .before .before .before), counted (d .before), ← d .check-directory .ensures 21, c .before .place .given .1)
+    rw (some (d .before .before .before .before .before), counted (d .before .before), ← by-directory d, c .before .place .given .1)
 
 check-parts-requires : tie.Need-check-parts-requires
 check-parts-requires c κs = search needs
@@ -77,7 +85,7 @@ unfolding checkOverlay
 returns-4 c =
     let k = c .before .before in
     let d = looked (k .before) in
-    rw (some (d .before .before .before .before), counted (d .before), right (k .before), ← k .check-parts .ensures)
+    rw (some (d .before .before .before .before .before), counted (d .before .before), right (k .before), ← k .check-parts .ensures)
     (sym (stands (k .check-parts .result) _ (c .enum-told5 .given .1)))
 
 check-part-labels-requires : tie.Need-check-part-labels-requires
@@ -88,7 +96,7 @@ unfolding checkOverlay
 returns-5 c =
     let k = c .before .before .before in
     let d = looked (k .before) in
-    rw (some (d .before .before .before .before), counted (d .before), right (k .before), passes _ _ (k .check-parts .ensures) (c .before .enum-told4 .given .1)) (c .check-part-labels .ensures)
+    rw (some (d .before .before .before .before .before), counted (d .before .before), right (k .before), passes _ _ (k .check-parts .ensures) (c .before .enum-told4 .given .1)) (c .check-part-labels .ensures)
 
 pub check-overlay-spec : {M : Type 1} → statement M
 check-overlay-spec =
@@ -99,6 +107,7 @@ check-overlay-spec =
     enum-told
     enum-told-2
     returns-2
+    two-requires
     check-directory-requires
     enum-told-3
     enum-known-place

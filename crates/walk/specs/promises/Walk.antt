@@ -20,7 +20,7 @@ use Rattle.plan.specs.Sense.Trace.{stackLeft}
 use Rattle.plan.specs.Trace.{Line, flatLines}
 use Rattle.plan.specs.declared.Step.{Step}
 use Rattle.plan.specs.declared.Step.the-variants.{Union}
-use Rattle.demands.specs.Given.{Given, checkGiven, planGiven, prepared, supplyGiven}
+use Rattle.demands.specs.Given.{Given, yearGiven, checkGiven, planGiven, prepared, supplyGiven}
 use Rattle.demands.specs.Monitor.{evaluation, written}
 use Rattle.walk_slices.specs.promises.Slices.{walkRoom}
 use Rattle.walk.specs.declared.WalkAnswer.{WalkAnswer}
@@ -41,7 +41,7 @@ before (line ∷ rest) later = behind line (before rest later)
 
 -- what is left for a step when so many draws are used
 abbrev pub leftGiven : Given → ℕ → Supply
-leftGiven given used = withoutDraws used (supplyGiven given)
+leftGiven given used = withoutDraws used (supplyGiven (yearGiven given) given)
 
 -- Before step number `index`, in slices that held `work₀` and `trace₀` when the walk began: the steps before it are finished and have used so
 -- many draws, the trace has their lines, and the evaluation goes on from the stack in work memory.
@@ -52,10 +52,10 @@ pub record Going (given : Given) (work₀ : Memory) (trace₀ : List ℕ) (index
   pub lines : List Line
   pub finished : length lines ≡ index
   pub traced : trace ≡ flatLines lines ++ drop (4 * length lines) trace₀
-  pub places : Placed (widthsOf (prepared given)) (widthsOf (stackIn work stack)) (drop index (planGiven given))
+  pub places : Placed (widthsOf (prepared (yearGiven given) given)) (widthsOf (stackIn work stack)) (drop index (planGiven given))
   pub drawn : used ≤ length (given .draws)
-  pub onward : evaluation given ≡ before lines (evaluateFrom (leftGiven given used) index (stackIn work stack) (drop index (planGiven given)))
-  pub to-come : stackLeft (supplyGiven given) [] (planGiven given) ≡ stackLeft (leftGiven given used) (stackIn work stack) (drop index (planGiven given))
+  pub onward : evaluation (yearGiven given) given ≡ before lines (evaluateFrom (leftGiven given used) index (stackIn work stack) (drop index (planGiven given)))
+  pub to-come : stackLeft (supplyGiven (yearGiven given) given) [] (planGiven given) ≡ stackLeft (leftGiven given used) (stackIn work stack) (drop index (planGiven given))
 
 -- what the evaluation comes to when its last step is finished: the release of the table left, or 35 or 36
 abbrev pub finish : ℕ → Table → Outcome
@@ -66,15 +66,15 @@ pub record Stepped (given : Given) (work₀ : Memory) (trace₀ : List ℕ) (wor
   pub long : roomIn work₀ trace₀ ≡ true
   pub accepted-is : checkGiven given ≡ accepted
   pub kept : AllKept work₀ work
-  pub traced : trace ≡ written (flatLines (evaluation given .trace)) trace₀
+  pub traced : trace ≡ written (flatLines (evaluation (yearGiven given) given .trace)) trace₀
 
 -- the table that the steps leave stands at the start of work memory, and its release or 35 or 36 is the evaluation's
 pub record Left (given : Given) (work : Memory) (steps rows columns : ℕ) : Type 0 where
   pub all-taken : steps ≡ length (planGiven given)
   pub few-rows : rows ≤ 256
   pub few-columns : columns ≤ 8
-  pub table-is : stackLeft (supplyGiven given) [] (planGiven given) ≡ tableIn work 0 columns rows ∷ []
-  pub outcome : evaluation given .outcome ≡ finish steps (tableIn work 0 columns rows)
+  pub table-is : stackLeft (supplyGiven (yearGiven given) given) [] (planGiven given) ≡ tableIn work 0 columns rows ∷ []
+  pub outcome : evaluation (yearGiven given) given .outcome ≡ finish steps (tableIn work 0 columns rows)
 
 -- What each answer means, of slices that held `work₀` and `trace₀` before and hold `work` and `trace` afterwards.
 abbrev pub Walked : Given → Memory → List ℕ → WalkAnswer → Memory → List ℕ → Type 0
@@ -83,5 +83,5 @@ Walked given work₀ trace₀ (answer.Input refusal) work trace =
     (roomIn work₀ trace₀ ≡ true) × (inputTells rejected refusal ≡ checkGiven given) × (work ≡ work₀) × (trace ≡ trace₀)
 Walked given work₀ trace₀ (answer.Refused step refusal) work trace =
     Stepped given work₀ trace₀ work trace
-    × (evaluation given .outcome ≡ refusalTells (λ number row column. refuse number step row column) refusal)
+    × (evaluation (yearGiven given) given .outcome ≡ refusalTells (λ number row column. refuse number step row column) refusal)
 Walked given work₀ trace₀ (answer.Finished steps rows columns) work trace = Stepped given work₀ trace₀ work trace × Left given work steps rows columns

@@ -4,6 +4,7 @@ use borrow.Author.Needs.{needs}
 use Rattle.container.specs.Check.{checkInputFrom}
 use Rattle.input.specs.Verdict.{accepted}
 use Rattle.directory.specs.Directory.{checkDirectory}
+use Rattle.layout.specs.Layout.{partCount}
 use Rattle.layout_check.specs.Checks.{checkContainer}
 use Rattle.input.proofs.Laws.{both, stands, passes, taken-together}
 use Rattle.container.proofs.checks.check_input_from.Statement.{statement}
@@ -21,7 +22,7 @@ enum-told-2 c = search needs
 
 -- 11 and 12 are passed
 laid-out : (c : tie.After-enum-told) → let bytes = now (c .before .before .before .before .args .container) in
-    (checkContainer bytes ≡ accepted) × (checkDirectory 12 bytes ≡ accepted)
+    (checkContainer bytes ≡ accepted) × (checkDirectory 12 (partCount bytes) bytes ≡ accepted)
 laid-out c = both _ _ (passes _ _ (c .before .before .check-layout .ensures) (c .enum-told .given .1))
 
 returns : tie.Need-returns
@@ -29,7 +30,7 @@ unfolding checkInputFrom
 returns c =
     let k = c .before .before in
     let bytes = now (k .before .before .args .container) in
-    rw (← taken-together (checkContainer bytes) (checkDirectory 12 bytes) _, ← k .check-layout .ensures)
+    rw (← taken-together (checkContainer bytes) (checkDirectory 12 (partCount bytes) bytes) _, ← k .check-layout .ensures)
     (sym (stands (k .check-layout .result) _ (c .enum-told2 .given .1)))
 
 check-tables-requires : tie.Need-check-tables-requires

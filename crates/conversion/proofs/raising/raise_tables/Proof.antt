@@ -9,7 +9,7 @@ use Rattle.conversion.specs.promises.Raising.{Raised}
 use Rattle.layout.specs.Layout.{partCount, offsetOf, partOf}
 use Rattle.table_part.specs.TablePart.{cellCount}
 use Rattle.conversion.proofs.Ones.{from-more, ones-few, none-raised, both-raised, new-length, offsets-length}
-use Rattle.conversion.proofs.Laid.{laid, TableLaid, table-laid}
+use Rattle.conversion.proofs.Laid.{before, laid, TableLaid, table-laid}
 use denote.Ref.{now}
 use Rattle.conversion.proofs.raising.raise_tables.Statement.{statement}
 use Rattle.conversion.proofs.raising.raise_tables.Tie as tie
@@ -26,7 +26,7 @@ part-count-requires : tie.Need-part-count-requires Inv-loop μ-loop
 part-count-requires c κs = search needs
 
 loop-holds : tie.Need-loop-holds Inv-loop μ-loop
-loop-holds c = let s = laid 1 _ (c .before .before .before .before .pre .0) .size in (omega arith, omega (arith, s .least, c .part-count .ensures), λ _. omega arith, none-raised)
+loop-holds c = let s = laid 1 _ (before _ (c .before .before .before .before .pre .0) .1) .size in (omega arith, omega (arith, s .least, c .part-count .ensures), λ _. omega arith, none-raised)
 
 part-requires : tie.Need-part-requires Inv-loop μ-loop
 part-requires c κs = search needs
@@ -42,7 +42,7 @@ here : (c : tie.After-part-offset Inv-loop μ-loop) → TableLaid (now (c .befor
 here c =
     let l = c .before .before .before .loop in
     let s = c .before .before .before .before .before .before .before .before in
-    table-laid 1 (now (s .args .container)) (s .pre .0) (l .index) (l .inv .0) (omega (arith, c .before .before .loop-test .taken, c .before .before .before .before .part-count .ensures))
+    table-laid 1 (now (s .args .container)) (before _ (s .pre .0) .1) (l .index) (l .inv .0) (omega (arith, c .before .before .loop-test .taken, c .before .before .before .before .part-count .ensures))
 
 raise-table-requires : tie.Need-raise-table-requires Inv-loop μ-loop
 raise-table-requires c κs =
@@ -50,7 +50,7 @@ raise-table-requires c κs =
     let s = o .before .before .before .before .before .before .before .before in
     let l = o .before .before .before .loop in
     let t = here o in
-    let size = laid 1 (now (s .args .container)) (s .pre .0) .size in
+    let size = laid 1 (now (s .args .container)) (before _ (s .pre .0) .1) .size in
     rw (o .before .part .ensures, o .part-offset .ensures) (
       t .whole,
       omega (arith, t .inside, size .short),

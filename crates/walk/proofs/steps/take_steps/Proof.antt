@@ -7,9 +7,10 @@ use lib.ListN.{length, take, drop, length-drop}
 use lib.Seq.{take-all}
 use borrow.Author.Needs.{needs}
 use Rattle.cells.specs.promises.Work.{memoryOf, markRoom, AllKept}
-use Rattle.demands.specs.Given.{Given, given, planGiven}
+use Rattle.demands.specs.Given.{Given, given, planGiven, yearGiven}
 use Rattle.memory.specs.promises.Stack.{stackIn}
 use Rattle.memory.specs.promises.Steps.{Done}
+use Rattle.overlaying.specs.promises.Overlaying.{afterStep}
 use Rattle.plan.specs.Steps.{drawsUsed}
 use Rattle.plan.specs.Table.{top}
 use Rattle.step.specs.promises.Taking.{Taken}
@@ -60,7 +61,7 @@ inside c = omega (arith, c .loop-test .taken, c .before .loop .inv .1)
 
 -- the step was taken
 abbrev turn : tie.After-take-step Inv-loop μ-loop → tie.In-loop Inv-loop μ-loop
-turn c = c .before .before .before .before .before .before .before
+turn c = c .before .before .before .before .before .before .before .before
 
 known : (c : tie.After-take-step Inv-loop μ-loop) → c .before .before .before .before .before .before .step-number .result ≡ stepNumber (given-to (turn c)) (turn c .before .loop .index)
 known c = c .before .before .before .before .before .before .step-number .ensures (given-to (turn c)) refl (start (turn c) .pre .0) (inside (turn c))
@@ -88,6 +89,9 @@ taken c =
     let rest : take (length draws - used) (drop used draws) ≡ drop used draws = take-all (length draws - used) (drop used draws) (omega (arith, length-drop used draws)) in
     rw rest at (c .take-step .ensures)
 
+rule-year-requires : tie.Need-rule-year-requires Inv-loop μ-loop
+rule-year-requires c κs = search needs
+
 step-number-requires : tie.Need-step-number-requires Inv-loop μ-loop
 step-number-requires c κs = search needs
 
@@ -98,10 +102,10 @@ mul-take-step : tie.Need-mul-take-step Inv-loop μ-loop
 mul-take-step c = search needs
 
 sub-take-step : tie.Need-sub-take-step Inv-loop μ-loop
-sub-take-step c = going (c .before .before) .drawn
+sub-take-step c = going (c .before .before .before) .drawn
 
 part-take-step-start : tie.Need-part-take-step-start Inv-loop μ-loop
-part-take-step-start c = going (c .before .before) .drawn
+part-take-step-start c = going (c .before .before .before) .drawn
 
 part-take-step-end : tie.Need-part-take-step-end Inv-loop μ-loop
 part-take-step-end c = search needs
@@ -185,7 +189,13 @@ used-is c =
     let i = turn k in
     c .draws-used .ensures ∙ ap₂ drawsUsed (known k) (top-rows (memoryOf (i .before .loop .values) (i .before .loop .labels) (i .before .loop .marks)) (i .before .loop .stack) (going i .is-ready) (many i) (k .before .before .before .before .before .live-table .ensures))
 
--- the step was taken, and the overlays are composed onto the labels of a table that it scanned
+-- the overlays are composed onto the labels of a table that it scanned, and these are read under the container's year
+overlaid-so : (c : tie.After-draws-used Inv-loop μ-loop) → let k = ended c in let g = given-to (turn k) in
+    c .before .before .before .before .before .before .before .before .overlay-step .last .1 .1 .1 .1 .0
+    ≡ afterStep (yearGiven g) (g .overlays) (k .before .before .before .before .before .before .step-number .result) (k .take-step .result .stack) (k .take-step .last .1 .1 .1 .0)
+overlaid-so c = rw (← ended c .before .before .before .before .before .before .before .rule-year .ensures) (c .before .before .before .before .before .before .before .before .overlay-step .ensures)
+
+-- so the step was taken
 made-so : (c : tie.After-draws-used Inv-loop μ-loop) → let k = ended c in let i = turn k in
     Done (stepNumber (given-to i) (i .before .loop .index)) (leftGiven (given-to i) (i .before .loop .used))
     (memoryOf (i .before .loop .values) (i .before .loop .labels) (i .before .loop .marks)) (i .before .loop .stack) (k .take-step .result)
@@ -193,7 +203,7 @@ made-so : (c : tie.After-draws-used Inv-loop μ-loop) → let k = ended c in let
 made-so c =
     let k = ended c in
     let i = turn k in
-    done-so _ (i .before .loop .used) (steady i) (known k) (taken k) (made-is c .enum-told2 .given .1) (many i) (c .before .before .before .before .before .before .before .before .overlay-step .ensures)
+    done-so _ (i .before .loop .used) (steady i) (known k) (taken k) (made-is c .enum-told2 .given .1) (many i) (overlaid-so c)
 
 -- the number of draws is one of the machine's
 few-draws : (c : tie.Start Inv-loop μ-loop) → length (now (c .args .draws)) < 2 ^ 64
@@ -220,8 +230,7 @@ loop-again c =
     let k = ended c in
     let i = turn k in
     let made = made-is c .enum-told2 .given .1 in
-    let over = c .before .before .before .before .before .before .before .before .overlay-step .ensures in
-    let line = line-made _ (i .before .loop .used) (steady i) (known k) (taken k) made (many i) over _ (go-room (start i .pre .0) (start i .pre .1) (going i) (inside i)) (c .before .before .before .write-step .ensures) in (
+    let line = line-made _ (i .before .loop .used) (steady i) (known k) (taken k) made (many i) (overlaid-so c) _ (go-room (start i .pre .0) (start i .pre .1) (going i) (inside i)) (c .before .before .before .write-step .ensures) in (
       omega (arith, i .loop-test .taken),
       i .before .loop .inv .1,
       go-on (start i .pre .0) (start i .pre .1) (going i) (inside i) (made-so c) made _ _ (used-is c) line,
@@ -259,6 +268,7 @@ take-steps-spec =
     step-count-requires
     no-tables-requires
     loop-holds
+    rule-year-requires
     step-number-requires
     live-table-requires
     mul-take-step

@@ -1,0 +1,2 @@
+-- For the proofs of other crates to cite, too.
+pub mod Flooring

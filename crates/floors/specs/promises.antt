@@ -1,0 +1,2 @@
+-- What the crates promise one another.
+pub mod Flooring
