@@ -6,6 +6,7 @@ use aggregate::larger;
 use aggregate::smaller;
 use plan::Aggregate;
 use rounding::average;
+use value::choice::chosen;
 use value::range::OVER;
 use value::range::in_range;
 use value::range::settled;
@@ -58,13 +59,9 @@ pub fn value_of(a: Accumulator, aggregate: Aggregate) -> i64
 {
     match aggregate {
         Aggregate::Count => a.rows as i64,
-        Aggregate::Sum => if a.exact { settled(a.total) } else { OVER },
+        Aggregate::Sum => settled(chosen(a.exact, a.total, OVER)),
         Aggregate::Min => a.least,
         Aggregate::Max => a.most,
-        Aggregate::Avg => if a.exact {
-            average(a.total, a.rows)
-        } else {
-            OVER
-        },
+        Aggregate::Avg => chosen(a.exact, average(a.total, a.rows), OVER),
     }
 }

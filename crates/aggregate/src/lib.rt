@@ -1,35 +1,32 @@
-// What the aggregates of a group are made of.
+// What the aggregates of a group are made of. Values may be locked, so that none of these branches on them.
 ghost use mathlib.Core.Path.{_≡_};
 ghost use mathlib.Core.Bool.{cond};
 ghost use Rattle.value.specs.Range.{ofBoth};
 ghost use Rattle.aggregate.specs.Aggregate.{smaller, larger, hasRoom, accumulated};
+use value::choice::chosen;
 use value::range::OVER;
 use value::range::both_in_range;
 use value::range::in_range;
 
 // The first or the second of two values.
-fn chosen(first: bool, a: i64, b: i64) -> i64
+fn of_two(first: bool, a: i64, b: i64) -> i64
     ensures { λ r. ⌜ r ≡ ofBoth a b (cond first a b) ⌝ }
 {
-    if both_in_range(a, b) {
-        if first { a } else { b }
-    } else {
-        OVER
-    }
+    chosen(both_in_range(a, b), chosen(first, a, b), OVER)
 }
 
 // The smaller of two values.
 pub fn smaller(a: i64, b: i64) -> i64
     ensures { λ r. ⌜ r ≡ smaller a b ⌝ }
 {
-    chosen(a <= b, a, b)
+    of_two(a <= b, a, b)
 }
 
 // The larger of two values.
 pub fn larger(a: i64, b: i64) -> i64
     ensures { λ r. ⌜ r ≡ larger a b ⌝ }
 {
-    chosen(b <= a, a, b)
+    of_two(b <= a, a, b)
 }
 
 // -2^62.
@@ -49,9 +46,5 @@ fn has_room(total: i64) -> bool
 pub fn accumulated(total: i64, v: i64) -> i64
     ensures { λ r. ⌜ r ≡ accumulated total v ⌝ }
 {
-    if in_range(v) & has_room(total) {
-        total + v
-    } else {
-        total
-    }
+    total + chosen(in_range(v) & has_room(total), v, 0)
 }

@@ -5,6 +5,7 @@ ghost use Prim.Native.Nat.{_-_, _^_};
 ghost use lib.IntN.{pos, negsuc};
 ghost use lib.Signed.{leZ};
 ghost use Rattle.noise_value.specs.Noise.{noisy};
+use value::choice::chosen;
 use value::range::OVER;
 use value::range::in_range;
 use value::range::settled;
@@ -18,11 +19,8 @@ const NEAR_MOST: i64 = 562_949_953_421_311;
 pub fn noisy(value: i64, draw: i64) -> i64
     ensures { λ r. ⌜ r ≡ noisy value draw ⌝ }
 {
-    if in_range(value) & near(draw) {
-        settled(value + draw)
-    } else {
-        OVER
-    }
+    let both = in_range(value) & near(draw);
+    settled(chosen(both, value, OVER) + chosen(both, draw, 0))
 }
 
 // Whether a draw can lead from a value to a value.

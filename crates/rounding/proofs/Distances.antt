@@ -3,21 +3,19 @@
 use mathlib.Core.Path.{_≡_, refl, sym, ap, _∙_}
 use mathlib.Core.Bool.{Bool, true, false, cond, _&&_, _||_}
 use Prim.Native.Nat.{ℕ, zero, suc, _+_, _-_, _*_, _/_, _%_, _≤_, _<_}
-use native.Mathlib.Nat.{add-assoc, add-zero, mul-comm, div-add-mod, div-lt-iff-lt-mul, mod-lt, mul-suc, mul-zero, le-of-lt, lt-of-mul-lt-mul-left}
+use native.Mathlib.Nat.{add-assoc, add-zero, mul-comm, div-add-mod, div-lt-iff-lt-mul, mul-suc, mul-zero, le-of-lt, lt-of-mul-lt-mul-left}
 use native.Mathlib.Omega.{arith}
 use lib.Dec.{eqb, ltb, leb→le, le→leb}
-use lib.IntN.{ℤ, pos, negsuc, negℤ, predℤ, sucℤ, _+ℤ_, _-ℤ_, _*ℤ_, negℤ-negℤ, negℤ-sucℤ, negℤ-+ℤ, +ℤ-idl, +ℤ-idr, +ℤ-invr, +ℤ-one, +ℤ-assoc, +ℤ-comm, +ℤ-sucℤ, +ℤ-predℤ, +ℤ-negℤ-cancel, *ℤ-comm, sucℤ-*ℤ}
-use lib.Signed.{mag, ltZ, remZ, shrZ, _≤ℤ_}
-use borrow.Author.Tests.{ltb-true, ltb-false, eqb-true, eqb-false, lt-ltb, le-ltb, le-leb, eq-eqb, ne-eqb}
+use lib.IntN.{ℤ, pos, negsuc, negℤ, predℤ, sucℤ, _+ℤ_, _-ℤ_, _*ℤ_, negℤ-negℤ, negℤ-sucℤ, negℤ-+ℤ, +ℤ-idr, +ℤ-one, +ℤ-assoc, +ℤ-comm, +ℤ-sucℤ, +ℤ-predℤ, *ℤ-comm, sucℤ-*ℤ}
+use lib.Signed.{mag, remZ, shrZ, _≤ℤ_}
+use borrow.Author.Tests.{ltb-true, ltb-false, eqb-true, eqb-false, lt-ltb, le-ltb, eq-eqb, ne-eqb}
 use Rattle.value.specs.Division.{floored}
 use Rattle.value.specs.Equality.{eqZ}
-use Rattle.value.proofs.Integers.{natAbs-neg, mag-down, times-pred, multiple-same, multiple-less}
+use Rattle.value.proofs.Integers.{natAbs-neg, mag-down, times-pred}
+use Rattle.value.proofs.Folded.{taken, remainder, remainder-below, left-is}
 use Rattle.rounding.specs.Rounding.{distance, even, nearer, rounded}
 
 -- ---- whole numbers
-
-taken : (a b c : ℕ) → c + b ≡ a → pos a -ℤ pos b ≡ pos c
-taken a b c e = ap (λ (m : ℕ). pos m -ℤ pos b) (sym e) ∙ +ℤ-negℤ-cancel (pos c) (pos b)
 
 short : (a b : ℕ) → a ≤ b → pos a -ℤ pos b ≡ negℤ (pos (b - a))
 short a b h =
@@ -37,9 +35,6 @@ one-up v k q =
     ∙ ap (λ (z : ℤ). v +ℤ z) (negℤ-+ℤ (k *ℤ q) k)
     ∙ sym (+ℤ-assoc v (negℤ (k *ℤ q)) (negℤ k))
 
-minus-minus : (v x : ℤ) → v -ℤ (v -ℤ x) ≡ x
-minus-minus v x = rw (negℤ-+ℤ v (negℤ x), negℤ-negℤ x, ← +ℤ-assoc v (negℤ v) x, +ℤ-invr v) (+ℤ-idl x)
-
 pub size-below : (v : ℤ) (m : ℕ) → mag v ≤ m → v ≤ℤ pos m
 size-below (pos a) m h = record { le = le→leb a m h }
 size-below (negsuc a) m h = record { le = tt }
@@ -54,36 +49,11 @@ even-is (negsuc m) = go (suc m % 2)
     go zero = refl
     go (suc r) = sym (ne-eqb (suc r) 0 (λ h. omega arith))
 
--- ---- what is left of v over the multiple of n below it
-
-abbrev pub remainder : ℤ → ℕ → ℕ
-remainder (pos a) n = a % n
-remainder (negsuc a) n = n - suc (a % n)
-
-pub remainder-below : (v : ℤ) {n : ℕ} → 0 < n → remainder v n < n
-remainder-below (pos a) p = mod-lt a p
-remainder-below (negsuc a) p = omega arith
-
-pub left : (v : ℤ) {n : ℕ} → 0 < n → v -ℤ pos n *ℤ shrZ v n ≡ pos (remainder v n)
-left (pos a) {n} p = taken a (n * (a / n)) (a % n) (omega (arith, div-add-mod a n))
-left (negsuc a) {n} p =
-    ap (λ (z : ℤ). negsuc a +ℤ z) (negℤ-negℤ (pos (n * suc (a / n)))) ∙ +ℤ-comm (negsuc a) (pos (n * suc (a / n)))
-    ∙ taken (n * suc (a / n)) (suc a) (n - suc (a % n)) (omega (arith, div-add-mod a n, mod-lt a p, mul-suc n (a / n)))
-
--- it is the remainder toward zero, raised by n where that is negative
-pub remainder-same : (v : ℤ) {n : ℕ} → 0 < n → ltZ (remZ v (pos n)) (pos 0) ≡ false → remZ v (pos n) ≡ pos (remainder v n)
-remainder-same v {n} p e =
-    sym (minus-minus v (remZ v (pos n))) ∙ ap (λ (z : ℤ). v -ℤ z) (multiple-same v (pos n) (le-leb 1 n p) e) ∙ left v p
-
-pub remainder-less : (v : ℤ) {n : ℕ} → 0 < n → ltZ (remZ v (pos n)) (pos 0) ≡ true → remZ v (pos n) +ℤ pos n ≡ pos (remainder v n)
-remainder-less v {n} p e =
-    sym (minus-minus v (remZ v (pos n) +ℤ pos n)) ∙ ap (λ (z : ℤ). v -ℤ z) (multiple-less v (pos n) (le-leb 1 n p) e) ∙ left v p
-
 -- ---- how far the numbers below and above v / n are from it
 
 module _ (v : ℤ) {n : ℕ} (p : 0 < n) where
   lower : (d : ℕ) → v -ℤ pos n *ℤ (shrZ v n -ℤ pos d) ≡ pos (remainder v n + n * d)
-  lower zero = rw (+ℤ-idr (shrZ v n), left v p, mul-zero n) (ap pos (omega arith))
+  lower zero = rw (+ℤ-idr (shrZ v n), left-is v p, mul-zero n) (ap pos (omega arith))
   lower (suc d) =
       ap (λ (z : ℤ). v -ℤ pos n *ℤ z) (ap (λ (z : ℤ). shrZ v n +ℤ z) (negℤ-sucℤ (pos d)) ∙ +ℤ-predℤ (shrZ v n) (negℤ (pos d)))
       ∙ one-down v (pos n) (shrZ v n -ℤ pos d) ∙ ap (λ (z : ℤ). z +ℤ pos n) (lower d)
@@ -91,7 +61,7 @@ module _ (v : ℤ) {n : ℕ} (p : 0 < n) where
 
   upper : (d : ℕ) → v -ℤ pos n *ℤ (shrZ v n +ℤ pos (suc d)) ≡ negℤ (pos (n - remainder v n + n * d))
   upper zero =
-      rw (+ℤ-one (shrZ v n), one-up v (pos n) (shrZ v n), left v p, short (remainder v n) n (le-of-lt (remainder-below v p)), mul-zero n)
+      rw (+ℤ-one (shrZ v n), one-up v (pos n) (shrZ v n), left-is v p, short (remainder v n) n (le-of-lt (remainder-below v p)), mul-zero n)
       (ap (λ (m : ℕ). negℤ (pos m)) (sym (add-zero (n - remainder v n))))
   upper (suc d) =
       rw (+ℤ-sucℤ (shrZ v n) (pos (suc d)), one-up v (pos n) (shrZ v n +ℤ pos (suc d)), upper d, ← negℤ-+ℤ (pos (n - remainder v n + n * d)) (pos n), mul-suc n d)

@@ -13,7 +13,8 @@ use borrow.Author.Tests.{ltb-true, ltb-false, eqb-true, eqb-false, eq-eqb, ne-eq
 use Rattle.value.specs.Division.{floored}
 use Rattle.rounding.specs.Rounding.{distance, even, nearer, rounded}
 use Rattle.rounding.specs.Sentences.{Nearest}
-use Rattle.rounding.proofs.Distances.{remainder, distance-down, distance-up, distance-floor, distance-next, nearer-is}
+use Rattle.value.proofs.Folded.{remainder}
+use Rattle.rounding.proofs.Distances.{distance-down, distance-up, distance-floor, distance-next, nearer-is}
 
 -- ---- whole numbers
 

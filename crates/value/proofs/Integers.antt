@@ -1,15 +1,14 @@
 -- Facts on whole numbers: their sizes, and division rounded toward zero and down.
 -- Assumes nothing.
 use mathlib.Core.Path.{_≡_, refl, sym, ap, _∙_}
-use mathlib.Core.Bool.{Bool, true, false, not, cond, true≢false, false≢true}
+use mathlib.Core.Bool.{Bool, true, false, not, cond, true≢false}
 use Prim.Native.Nat.{ℕ, zero, suc, _+_, _-_, _*_, _/_, _%_, _≤_, _<_, zero-le}
-use native.Mathlib.Nat.{div-add-mod, div-add-mod', mod-lt, le-refl, le-trans, le-of-lt, le-suc, div-le-self, mul-zero, zero-add, mul-div-le, lt-mul-div-succ, mod-le}
+use native.Mathlib.Nat.{div-add-mod, mod-lt, le-refl, le-trans, le-of-lt, le-suc, div-le-self, mul-zero, zero-add, mul-div-le, lt-mul-div-succ, mod-le}
 use native.Mathlib.Omega.{arith}
-use lib.Arith.{digits-div}
 use lib.Dec.{T, leb, ltb, leb→le, le→leb, lt→ltb}
-use lib.IntN.{ℤ, pos, negsuc, natAbs, negℤ, predℤ, sucℤ, _+ℤ_, _-ℤ_, _*ℤ_, negℤ-+ℤ, +ℤ-assoc, +ℤ-negℤ-cancel, *ℤ-comm, predℤ-*ℤ}
+use lib.IntN.{ℤ, pos, negsuc, natAbs, negℤ, predℤ, sucℤ, _+ℤ_, _-ℤ_, _*ℤ_, negℤ-+ℤ, *ℤ-comm, predℤ-*ℤ}
 use lib.Signed.{mag, leZ, ltZ, nonNeg, quotZ, remZ, shrZ, _≤ℤ_, _<ℤ_}
-use borrow.Author.Tests.{ltb-true, ltb-false, leb-true, leb-false, le-ltb, le-leb, lt-leb}
+use borrow.Author.Tests.{ltb-true, ltb-false, leb-false, le-ltb, le-leb, lt-leb}
 
 -- a test that holds, as a type
 pub so : {t : Bool} → t ≡ true → T t
@@ -80,26 +79,6 @@ not-negative (negsuc n) e = absurd (true≢false e)
 
 -- ---- division
 
--- one more than a, divided: a remainder of 0 begins the next multiple, any other does not
-next-whole : (a : ℕ) {n : ℕ} → 0 < n → suc a % n ≡ 0 → suc a / n ≡ suc (a / n)
-next-whole a {n} p e = go (suc a / n) (omega (arith, div-add-mod' (suc a) n))
-  where
-    go : (q : ℕ) → q * n ≡ suc a → q ≡ suc (a / n)
-    go zero h = absurd (omega arith)
-    go (suc q) h = ap suc (sym (digits-div q (omega arith)) ∙ ap (λ (m : ℕ). m / n) w)
-      where
-        w : q * n + (n - 1) ≡ a
-        w = omega arith
-
-next-part : (a r : ℕ) {n : ℕ} → 0 < n → suc a % n ≡ suc r → suc a / n ≡ a / n
-next-part a r {n} p e = sym (digits-div (suc a / n) small) ∙ ap (λ (m : ℕ). m / n) w
-  where
-    small : r < n
-    small = omega (arith, mod-lt (suc a) p)
-
-    w : suc a / n * n + r ≡ a
-    w = omega (arith, div-add-mod' (suc a) n)
-
 pos-*-neg : (n m : ℕ) → pos n *ℤ negℤ (pos m) ≡ negℤ (pos (n * m))
 pos-*-neg n zero = rw mul-zero
 pos-*-neg n (suc m) = refl
@@ -111,50 +90,8 @@ whole (negsuc a) n =
     ap (λ (m : ℕ). negℤ (pos m)) (sym (div-add-mod (suc a) n)) ∙ negℤ-+ℤ (pos (n * (suc a / n))) (pos (suc a % n))
     ∙ ap (λ (z : ℤ). z +ℤ negℤ (pos (suc a % n))) (sym (pos-*-neg n (suc a / n)))
 
--- the quotient rounded down is the one toward zero, or one less where the remainder is negative
-pub down-same : (v : ℤ) {n : ℕ} → 0 < n → ltZ (remZ v (pos n)) (pos 0) ≡ false → shrZ v n ≡ quotZ v (pos n)
-down-same (pos a) p e = refl
-down-same (negsuc a) {n} p e = go (suc a % n) refl e
-  where
-    go : (r : ℕ) → suc a % n ≡ r → ltZ (negℤ (pos r)) (pos 0) ≡ false → negsuc (a / n) ≡ negℤ (pos (suc a / n))
-    go zero h t = rw (next-whole a p h)
-    go (suc r) h t = absurd (true≢false t)
-
-before : (m : ℕ) → negsuc m ≡ predℤ (negℤ (pos m))
-before zero = refl
-before (suc m) = refl
-
-pub down-less : (v : ℤ) {n : ℕ} → 0 < n → ltZ (remZ v (pos n)) (pos 0) ≡ true → shrZ v n ≡ predℤ (quotZ v (pos n))
-down-less (pos a) {n} p e = absurd (omega (arith, ltb-true (a % n) 0 e))
-down-less (negsuc a) {n} p e = go (suc a % n) refl e
-  where
-    go : (r : ℕ) → suc a % n ≡ r → ltZ (negℤ (pos r)) (pos 0) ≡ true → negsuc (a / n) ≡ predℤ (negℤ (pos (suc a / n)))
-    go zero h t = absurd (false≢true t)
-    go (suc r) h t = rw (next-part a r p h) (before (a / n))
-
-minus-both : (x r k : ℤ) → (x +ℤ r) -ℤ (r +ℤ k) ≡ x -ℤ k
-minus-both x r k =
-    ap (λ (z : ℤ). (x +ℤ r) +ℤ z) (negℤ-+ℤ r k) ∙ sym (+ℤ-assoc (x +ℤ r) (negℤ r) (negℤ k))
-    ∙ ap (λ (z : ℤ). z -ℤ k) (+ℤ-negℤ-cancel x r)
-
 pub times-pred : (k q : ℤ) → k *ℤ predℤ q ≡ k *ℤ q -ℤ k
 times-pred k q = *ℤ-comm k (predℤ q) ∙ predℤ-*ℤ q k ∙ ap (λ (z : ℤ). z -ℤ k) (*ℤ-comm q k)
-
--- a number less its remainder, raised by the divisor where that is negative, is the multiple not above it
-pub multiple-same : (v k : ℤ) → leZ (pos 1) k ≡ true → ltZ (remZ v k) (pos 0) ≡ false → v -ℤ remZ v k ≡ k *ℤ shrZ v (natAbs k)
-multiple-same v (pos n) p e =
-    ap (λ (z : ℤ). z -ℤ remZ v (pos n)) (whole v n)
-    ∙ +ℤ-negℤ-cancel (pos n *ℤ quotZ v (pos n)) (remZ v (pos n))
-    ∙ ap (λ (z : ℤ). pos n *ℤ z) (sym (down-same v (leb-true 1 n p) e))
-multiple-same v (negsuc n) p e = absurd (false≢true p)
-
-pub multiple-less : (v k : ℤ) → leZ (pos 1) k ≡ true → ltZ (remZ v k) (pos 0) ≡ true → v -ℤ (remZ v k +ℤ k) ≡ k *ℤ shrZ v (natAbs k)
-multiple-less v (pos n) p e =
-    ap (λ (z : ℤ). z -ℤ (remZ v (pos n) +ℤ pos n)) (whole v n)
-    ∙ minus-both (pos n *ℤ quotZ v (pos n)) (remZ v (pos n)) (pos n)
-    ∙ sym (times-pred (pos n) (quotZ v (pos n)))
-    ∙ ap (λ (z : ℤ). pos n *ℤ z) (sym (down-less v (leb-true 1 n p) e))
-multiple-less v (negsuc n) p e = absurd (false≢true p)
 
 -- ---- the order
 

@@ -1,12 +1,12 @@
 -- The definitions' tests as facts on sizes, and what follows for sums and differences of values: they fit 64 bits.
 -- Assumes nothing.
 use mathlib.Core.Path.{_≡_, refl, sym, _∙_}
-use mathlib.Core.Bool.{Bool, true, false, _&&_, and-eq-true-iff}
+use mathlib.Core.Bool.{Bool, true, false, _&&_}
 use Prim.Native.Nat.{ℕ, _-_, _^_, _≤_, _<_}
 use native.Mathlib.Omega.{arith}
 use lib.Dec.{leb}
 use lib.IntN.{ℤ, pos, negsuc, _+ℤ_, _-ℤ_}
-use lib.Signed.{mag, mag-rem, leZ, remZ}
+use lib.Signed.{mag, leZ}
 use mir.Syntax.{w64}
 use mir.Val.{SFits}
 use borrow.Author.Tests.{leb-true, le-leb, lt-leb}
@@ -46,24 +46,3 @@ pub difference-fits : (a b : ℤ) → bothInRange a b ≡ true → SFits w64 (a 
 difference-fits a b e =
     let h = in-both a b e in
     sfits-of (omega (arith, mag-minus a b (in-size a (h .0)) (in-size b (h .1))))
-
--- what `band` takes off a value fits, and so does what is left
-module _ (k v : ℤ) (e : bothInRange k v ≡ true) where
-  small-k : mag k < 2 ^ 47
-  small-k = in-size k (in-both k v e .0)
-
-  small-v : mag v < 2 ^ 47
-  small-v = in-size v (in-both k v e .1)
-
-  small-rest : mag (remZ v k) < 2 ^ 47
-  small-rest = omega (arith, mag-rem v k, small-v)
-
-  pub raised-fits : SFits w64 (remZ v k +ℤ k)
-  raised-fits = sfits-of (omega (arith, mag-plus (remZ v k) k small-rest small-k))
-
-  pub less-rest-fits : SFits w64 (v -ℤ remZ v k)
-  less-rest-fits = sfits-of (omega (arith, mag-minus v (remZ v k) small-v small-rest))
-
-  pub less-raised-fits : SFits w64 (v -ℤ (remZ v k +ℤ k))
-  less-raised-fits =
-      sfits-of (omega (arith, mag-minus v (remZ v k +ℤ k) small-v (mag-plus (remZ v k) k small-rest small-k)))

@@ -2,15 +2,18 @@
 ghost use mathlib.Core.Path.{_≡_};
 ghost use Rattle.value.specs.Pattern.{signedOf, negative, magnitudeOf};
 
-// The number that 64 bits stand for in two's complement.
+// 2^63, the place of the highest of 64 bits, and -2^63, what it stands for.
+const HIGHEST: u64 = 0x8000_0000_0000_0000;
+
+const LOWEST: i64 = -0x8000_0000_0000_0000;
+
+// The number that 64 bits stand for in two's complement: without a branch, since the value may be locked.
 pub fn signed(bits: u64) -> i64
     ensures { λ r. ⌜ r ≡ signedOf bits ⌝ }
 {
-    if bits < 0x8000_0000_0000_0000 {
-        bits as i64
-    } else {
-        -1 - (0xffff_ffff_ffff_ffff - bits) as i64
-    }
+    let high = (bits / HIGHEST) as i64;
+    let low = (bits % HIGHEST) as i64;
+    low + high * LOWEST
 }
 
 // Whether a number is below zero.

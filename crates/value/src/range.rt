@@ -1,6 +1,7 @@
 // The range of a value, and OVER, document 01's word for a result outside it.
 ghost use mathlib.Core.Path.{_≡_};
 ghost use Rattle.value.specs.Range.{inRange, bothInRange, settled};
+use crate::choice::chosen;
 
 // -2^47.
 const LEAST: i64 = -140_737_488_355_328;
@@ -29,5 +30,5 @@ pub fn both_in_range(a: i64, b: i64) -> bool
 pub fn settled(v: i64) -> i64
     ensures { λ r. ⌜ r ≡ settled v ⌝ }
 {
-    if in_range(v) { v } else { OVER }
+    chosen(in_range(v), v, OVER)
 }

@@ -7,14 +7,14 @@ use Rattle.value.proofs.Machine.{back-is}
 use Rattle.aggregate.proofs.larger.Statement.{statement}
 use Rattle.aggregate.proofs.larger.Tie as tie
 
-chosen-requires : tie.Need-chosen-requires
-chosen-requires c κs = search needs
+of-two-requires : tie.Need-of-two-requires
+of-two-requires c κs = search needs
 
 returns : tie.Need-returns
 unfolding larger
 returns c =
     let f = c .before .fits in
-    rw (back-is (c .chosen .result) (c .chosen .ok)) (rw (toZ-ofZ (f .a), toZ-ofZ (f .b)) at (c .chosen .ensures))
+    rw (back-is (c .of-two .result) (c .of-two .ok)) (rw (toZ-ofZ (f .a), toZ-ofZ (f .b)) at (c .of-two .ensures))
 
 pub larger-spec : {M : Type 1} → statement M
-larger-spec = tie.close (tie.spec chosen-requires returns)
+larger-spec = tie.close (tie.spec of-two-requires returns)

@@ -7,14 +7,14 @@ use Rattle.value.proofs.Machine.{back-is}
 use Rattle.aggregate.proofs.smaller.Statement.{statement}
 use Rattle.aggregate.proofs.smaller.Tie as tie
 
-chosen-requires : tie.Need-chosen-requires
-chosen-requires c κs = search needs
+of-two-requires : tie.Need-of-two-requires
+of-two-requires c κs = search needs
 
 returns : tie.Need-returns
 unfolding smaller
 returns c =
     let f = c .before .fits in
-    rw (back-is (c .chosen .result) (c .chosen .ok)) (rw (toZ-ofZ (f .a), toZ-ofZ (f .b)) at (c .chosen .ensures))
+    rw (back-is (c .of-two .result) (c .of-two .ok)) (rw (toZ-ofZ (f .a), toZ-ofZ (f .b)) at (c .of-two .ensures))
 
 pub smaller-spec : {M : Type 1} → statement M
-smaller-spec = tie.close (tie.spec chosen-requires returns)
+smaller-spec = tie.close (tie.spec of-two-requires returns)

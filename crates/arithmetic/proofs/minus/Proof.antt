@@ -1,33 +1,76 @@
 -- `arithmetic::minus` meets its contract: the difference of two values fits, and is settled.
 -- Assumes nothing.
-use lib.IntN.{_-ℤ_}
+use mathlib.Core.Path.{_≡_, refl, sym, ap, ap₂, _∙_}
+use mathlib.Core.Bool.{Bool, cond}
+use lib.IntN.{ℤ, pos, _-ℤ_}
+use mir.Facts.{toZ-ofZ}
 use borrow.Author.Needs.{needs}
-use Rattle.value.specs.Range.{OVER}
+use Rattle.value.specs.Range.{bothInRange, OVER, settled, ofBoth}
 use Rattle.arithmetic.specs.Arithmetic.{minus}
+use Rattle.value.proofs.Machine.{back, answered, said₂}
 use Rattle.value.proofs.Sizes.{difference-fits}
-use Rattle.value.proofs.Operation.{Operation, operation}
+use Rattle.value.proofs.Operation.{operands-fit, operands-settled}
 use Rattle.arithmetic.proofs.minus.Statement.{statement}
 use Rattle.arithmetic.proofs.minus.Tie as tie
 
-law : (c : tie.After-both-in-range) → Operation _-ℤ_ (c .before .args .a) (c .before .args .b) (c .both-in-range .result)
-law c = operation _-ℤ_ difference-fits (c .before .fits .a) (c .before .fits .b) (c .both-in-range .ensures)
+module _ (c : tie.After-chosen2) where
+  abbrev a : ℤ
+  a = c .before .before .before .args .a
 
-returns : tie.Need-returns
-unfolding minus
-returns c = law (c .before .before) .done (c .before .if1 .taken) (c .settled .result) (c .settled .ok) (c .settled .ensures)
+  abbrev b : ℤ
+  b = c .before .before .before .args .b
 
-returns-2 : tie.Need-returns-2
-unfolding minus OVER
-returns-2 c = law (c .before) .over (c .if1 .left)
+  abbrev test : Bool
+  test = c .before .before .both-in-range .result
+
+  tested : test ≡ bothInRange a b
+  tested =
+      let s = c .before .before in
+      said₂ bothInRange (s .before .fits .a) (s .before .fits .b) (s .both-in-range .ensures)
+
+  -- the operands chosen
+  operands : (back (c .before .chosen .result) -ℤ back (c .chosen2 .result)) ≡ (cond test a OVER -ℤ cond test b (pos 0))
+  unfolding OVER
+  operands =
+      let f = c .before .before .before .fits in
+      ap₂ _-ℤ_
+      (answered (c .before .chosen .ok) (c .before .chosen .ensures ∙ ap (λ z. cond test z OVER) (toZ-ofZ (f .a))))
+      (answered (c .chosen2 .ok) (c .chosen2 .ensures ∙ ap (λ z. cond test z (pos 0)) (toZ-ofZ (f .b))))
+
+over : OVER -ℤ pos 0 ≡ OVER
+unfolding OVER
+over = refl
 
 both-in-range-requires : tie.Need-both-in-range-requires
 both-in-range-requires c κs = search needs
 
+chosen-requires : tie.Need-chosen-requires
+chosen-requires c κs = search needs
+
+chosen-requires-2 : tie.Need-chosen-requires-2
+chosen-requires-2 c κs = search needs
+
 sub-settled : tie.Need-sub-settled
-sub-settled c = law (c .before) .safe (c .if1 .taken)
+sub-settled c =
+    rw (operands c) (operands-fit _-ℤ_ over (test c) (a c) (b c) (λ h. difference-fits (a c) (b c) (sym (tested c) ∙ h)))
 
 settled-requires : tie.Need-settled-requires
 settled-requires c κs = search needs
 
+returns : tie.Need-returns
+unfolding minus ofBoth
+returns c =
+    let d = c .before in
+    answered (c .settled .ok) (c .settled .ensures ∙ ap settled (toZ-ofZ (sub-settled d) ∙ operands d))
+    ∙ rw (← tested d) (operands-settled _-ℤ_ over (test d) (a d) (b d))
+
 pub minus-spec : {M : Type 1} → statement M
-minus-spec = tie.close (tie.spec both-in-range-requires sub-settled settled-requires returns returns-2)
+minus-spec =
+    tie.close
+    (tie.spec
+    both-in-range-requires
+    chosen-requires
+    chosen-requires-2
+    sub-settled
+    settled-requires
+    returns)

@@ -1,59 +1,65 @@
--- `rounding::floored` meets its contract: the quotient toward zero, less one where the remainder is negative, fits, and is the
--- quotient rounded down.
+-- `rounding::floored` meets its contract.
 -- Assumes nothing.
-use mathlib.Core.Path.{_≡_, sym}
+use mathlib.Core.Path.{_≡_, _∙_}
+use Prim.Native.Nat.{ℕ, _<_}
 use native.Mathlib.Omega.{arith}
-use lib.IntN.{pos, _-ℤ_, -ℤ-one}
-use lib.Signed.{mag-shr, quotZ, shrZ}
+use lib.IntN.{ℤ, pos}
+use lib.Signed.{mag, quotZ}
 use mir.Syntax.{w64}
-use mir.Val.{toZ}
-use mir.ValLaws.{sfits-le}
+use mir.Val.{SFits, toZ}
 use mir.Facts.{toZ-ofZ, toZ-pos}
-use borrow.Author.Needs.{needs}
+use borrow.Author.Needs.{needs, sfits-of}
 use borrow.Author.Tests.{le-leb}
 use Rattle.value.specs.Division.{floored}
-use Rattle.value.proofs.Integers.{down-same, down-less}
-use Rattle.value.proofs.Machine.{back}
-use Rattle.value.proofs.Operation.{divides, back-rest}
+use Rattle.value.proofs.Folded.{dividend-is, dividend-fits, quotient-is, mag-turned}
+use Rattle.value.proofs.Machine.{back, answered}
+use Rattle.value.proofs.Operation.{divides}
 use Rattle.rounding.proofs.floored.Statement.{statement}
 use Rattle.rounding.proofs.floored.Tie as tie
 
--- the rows, as the machine reads them for the division
-rows : (c : tie.Start) → toZ w64 (c .args .rows) ≡ pos (c .args .rows)
-rows c = toZ-pos w64 (omega arith)
+module _ (c : tie.After-folded) where
+  abbrev v : ℤ
+  v = c .before .args .total
 
-cast-n : tie.Need-cast-n
-cast-n c = search needs
+  abbrev n : ℕ
+  n = c .before .args .rows
+
+  rows : toZ w64 n ≡ pos n
+  rows = toZ-pos w64 (omega arith)
+
+  size : back (c .folded .result) ≡ pos (mag v)
+  size = dividend-is (c .before .fits .total) (c .folded .ok) (c .folded .ensures)
+
+  size-fits : SFits w64 (pos (mag v))
+  size-fits = dividend-fits (c .before .fits .total) (c .folded .ok) (c .folded .ensures)
+
+  safe : (0 < n) × SFits w64 (quotZ (pos (mag v)) (pos n))
+  safe = divides (pos (mag v)) (pos n) (le-leb 1 n (c .before .pre)) size-fits
+
+  quotient : back (quotZ (back (c .folded .result)) (toZ w64 n)) ≡ quotZ (pos (mag v)) (pos n)
+  quotient = rw (size, rows) (toZ-ofZ (safe .1))
+
+folded-requires : tie.Need-folded-requires
+folded-requires c κs = search needs
+
+cast-q : tie.Need-cast-q
+cast-q c = search needs
 
 div-q : tie.Need-div-q
-div-q c = rw (toZ-ofZ (c .fits .total), rows c) (divides _ (pos (c .args .rows)) (le-leb 1 _ (c .pre)) (c .fits .total))
+div-q c = rw (size c, rows c) (safe c)
 
-rem-if1 : tie.Need-rem-if1
-rem-if1 c = div-q c
+sub-chosen : tie.Need-sub-chosen
+sub-chosen c = rw (quotient c) (sfits-of (rw (mag-turned (quotZ (pos (mag (v c))) (pos (n c)))) (safe c .1 .sfits)))
 
--- where the remainder is negative, the quotient less one is the one rounded down
-one-less : (c : tie.Then1)
-    → back (quotZ (back (c .before .args .total)) (toZ w64 (c .before .args .rows))) -ℤ pos 1
-    ≡ shrZ (c .before .args .total) (c .before .args .rows)
-one-less c =
-    let f = c .before .fits .total in
-    let e = rw (toZ-ofZ f, rows (c .before), back-rest _ f) at (c .if1 .taken) in
-    rw (toZ-ofZ (div-q (c .before) .1), toZ-ofZ f, rows (c .before), -ℤ-one)
-    (sym (down-less (c .before .args .total) (c .before .pre) e))
+chosen-requires : tie.Need-chosen-requires
+chosen-requires c κs = search needs
 
 returns : tie.Need-returns
 unfolding floored
-returns c = rw (one-less c) (toZ-ofZ (sfits-le (mag-shr (c .before .args .total) (c .before .args .rows)) (c .before .fits .total)))
-
-returns-2 : tie.Need-returns-2
-unfolding floored
-returns-2 c =
-    let f = c .before .fits .total in
-    let e = rw (toZ-ofZ f, rows (c .before), back-rest _ f) at (c .if1 .left) in
-    rw (toZ-ofZ (div-q (c .before) .1), toZ-ofZ f, rows (c .before), ← down-same (c .before .args .total) (c .before .pre) e)
-
-sub-result : tie.Need-sub-result
-sub-result c = rw (one-less c) (sfits-le (mag-shr (c .before .args .total) (c .before .args .rows)) (c .before .fits .total))
+returns c =
+    let d = c .before in
+    answered (c .chosen .ok) (c .chosen .ensures)
+    ∙ rw (toZ-ofZ (sub-chosen d), quotient d, toZ-ofZ (d .before .fits .total)) (quotient-is (v d) (n d))
 
 pub floored-spec : {M : Type 1} → statement M
-floored-spec = tie.close (tie.spec cast-n div-q rem-if1 sub-result returns returns-2)
+floored-spec = tie.close (tie.spec folded-requires cast-q div-q sub-chosen chosen-requires returns)

@@ -1,59 +1,71 @@
--- `rounding::remainder` meets its contract: the remainder toward zero, raised by the rows where it is negative.
+-- `rounding::remainder` meets its contract.
 -- Assumes nothing.
-use mathlib.Core.Path.{_≡_}
+use mathlib.Core.Path.{_≡_, _∙_}
+use Prim.Native.Nat.{ℕ}
 use native.Mathlib.Omega.{arith}
-use Prim.Native.Nat.{suc}
-use lib.IntN.{pos, _+ℤ_}
-use lib.Signed.{remZ}
+use lib.IntN.{ℤ, pos}
+use lib.Signed.{mag, remZ}
 use mir.Syntax.{w64}
-use mir.Val.{toZ, SFits}
+use mir.Val.{SFits, toZ}
 use mir.Facts.{toZ-ofZ, toZ-pos}
 use borrow.Author.Needs.{needs, sfits-of}
 use borrow.Author.Tests.{le-leb}
 use Rattle.value.specs.Division.{floored}
-use Rattle.value.proofs.Integers.{mag-natAbs, mag-plus, rest-small}
+use Rattle.value.proofs.Folded.{dividend-is, dividend-fits, remainder-is, one-less-fits, counted-fits}
+use Rattle.value.proofs.Machine.{back, answered}
 use Rattle.value.proofs.Operation.{divides, back-rest}
-use Rattle.rounding.proofs.Distances.{distance-floor, remainder-same, remainder-less}
+use Rattle.rounding.proofs.Distances.{distance-floor}
 use Rattle.rounding.proofs.remainder.Statement.{statement}
 use Rattle.rounding.proofs.remainder.Tie as tie
 
--- the rows, as the machine reads them
-rows : (c : tie.Start) → toZ w64 (c .args .rows) ≡ pos (c .args .rows)
-rows c = toZ-pos w64 (omega arith)
+module _ (c : tie.After-folded) where
+  abbrev v : ℤ
+  v = c .before .args .total
+
+  abbrev n : ℕ
+  n = c .before .args .rows
+
+  rows : toZ w64 n ≡ pos n
+  rows = toZ-pos w64 (omega arith)
+
+  size : back (c .folded .result) ≡ pos (mag v)
+  size = dividend-is (c .before .fits .total) (c .folded .ok) (c .folded .ensures)
+
+  size-fits : SFits w64 (pos (mag v))
+  size-fits = dividend-fits (c .before .fits .total) (c .folded .ok) (c .folded .ensures)
+
+  rows-fit : SFits w64 (pos n)
+  rows-fit = sfits-of (omega arith)
+
+  rest : back (remZ (back (c .folded .result)) (toZ w64 n)) ≡ remZ (pos (mag v)) (pos n)
+  rest = rw (size, rows) (back-rest (pos n) size-fits)
 
 cast-n : tie.Need-cast-n
 cast-n c = search needs
 
+folded-requires : tie.Need-folded-requires
+folded-requires c κs = search needs
+
 rem-r : tie.Need-rem-r
-rem-r c = rw (toZ-ofZ (c .fits .total), rows c) (divides _ (pos (c .args .rows)) (le-leb 1 _ (c .pre)) (c .fits .total))
+rem-r c = rw (size c, rows c) (divides (pos (mag (v c))) (pos (n c)) (le-leb 1 (n c) (c .before .pre)) (size-fits c))
 
--- where the remainder is negative, it is more than minus the rows
-fits : (c : tie.Then1) → SFits w64 (remZ (c .before .args .total) (pos (c .before .args .rows)) +ℤ pos (c .before .args .rows))
-fits c =
-    let n = c .before .args .rows in
-    let r = remZ (c .before .args .total) (pos n) in
-    sfits-of (omega (arith, mag-plus r (pos n) {p = n} {q = suc n} (omega (arith, mag-natAbs r, rest-small (c .before .args .total) (c .before .pre))) (omega arith)))
+sub-chosen : tie.Need-sub-chosen
+sub-chosen c = rw (rows c) (one-less-fits (pos (n c)) (le-leb 1 (n c) (c .before .pre)) (rows-fit c))
 
-add-result : tie.Need-add-result
-add-result c = rw (toZ-ofZ (c .before .fits .total), rows (c .before), back-rest _ (c .before .fits .total)) (fits c)
+sub-chosen-2 : tie.Need-sub-chosen-2
+sub-chosen-2 c =
+    rw (rest c, toZ-ofZ (sub-chosen c), rows c) (counted-fits (pos (n c)) (v c) (le-leb 1 (n c) (c .before .pre)) (rows-fit c))
+
+chosen-requires : tie.Need-chosen-requires
+chosen-requires c κs = search needs
 
 returns : tie.Need-returns
 unfolding floored
 returns c =
-    let f = c .before .fits .total in
-    let p = c .before .pre in
-    let e = rw (toZ-ofZ f, rows (c .before), back-rest _ f) at (c .if1 .taken) in
-    rw (toZ-ofZ f, rows (c .before), back-rest _ f, toZ-ofZ (fits c), distance-floor (c .before .args .total) p)
-    (remainder-less (c .before .args .total) p e)
-
-returns-2 : tie.Need-returns-2
-unfolding floored
-returns-2 c =
-    let f = c .before .fits .total in
-    let p = c .before .pre in
-    let e = rw (toZ-ofZ f, rows (c .before), back-rest _ f) at (c .if1 .left) in
-    rw (toZ-ofZ f, rows (c .before), back-rest _ f, distance-floor (c .before .args .total) p)
-    (remainder-same (c .before .args .total) p e)
+    let d = c .before in
+    answered (c .chosen .ok) (c .chosen .ensures)
+    ∙ rw (toZ-ofZ (sub-chosen-2 d), toZ-ofZ (sub-chosen d), rest d, rows d, toZ-ofZ (d .before .fits .total), distance-floor (v d) (d .before .pre))
+    (remainder-is (v d) (d .before .pre))
 
 pub remainder-spec : {M : Type 1} → statement M
-remainder-spec = tie.close (tie.spec cast-n rem-r add-result returns returns-2)
+remainder-spec = tie.close (tie.spec cast-n folded-requires rem-r sub-chosen sub-chosen-2 chosen-requires returns)

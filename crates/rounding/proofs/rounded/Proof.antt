@@ -2,11 +2,11 @@
 -- definition.
 -- Assumes nothing.
 use mathlib.Core.Path.{_≡_, refl, ap, _∙_}
-use mathlib.Core.Bool.{Bool, true, cond, _&&_, _||_}
+use mathlib.Core.Bool.{Bool, true, false, cond, _&&_, _||_}
 use Prim.Native.Nat.{ℕ, _-_, _*_, _^_, _<_}
 use native.Mathlib.Omega.{arith}
 use lib.Dec.{eqb, lit<}
-use lib.IntN.{ℤ, pos, _+ℤ_}
+use lib.IntN.{ℤ, pos, _+ℤ_, _-ℤ_, +ℤ-idr}
 use lib.Signed.{mag-shr, mag-rem, ltZ, remZ, shrZ}
 use mir.Syntax.{w64}
 use mir.Val.{toZ, ofZ, SFits}
@@ -15,11 +15,16 @@ use mir.Facts.{toZ-ofZ, toZ-pos}
 use borrow.Author.Needs.{needs, sfits-of}
 use Rattle.value.specs.Division.{floored}
 use Rattle.rounding.specs.Rounding.{distance, rounded}
-use Rattle.value.proofs.Machine.{back, back-is, said, eqb-bits}
+use Rattle.value.proofs.Machine.{back, back-is, said, eqb-bits, bit, other-bit-fits}
 use Rattle.value.proofs.Operation.{divides}
-use Rattle.rounding.proofs.Distances.{remainder, remainder-below, distance-floor, even-is, stays, rounded-is, size-below, rounded-size}
+use Rattle.value.proofs.Folded.{remainder, remainder-below}
+use Rattle.rounding.proofs.Distances.{distance-floor, even-is, stays, rounded-is, size-below, rounded-size}
 use Rattle.rounding.proofs.rounded.Statement.{statement}
 use Rattle.rounding.proofs.rounded.Tie as tie
+
+stepped : (t : Bool) (q : ℤ) → q +ℤ back (pos 1 -ℤ bit t) ≡ cond t q (q +ℤ pos 1)
+stepped true q = +ℤ-idr q
+stepped false q = refl
 
 module _ (c : tie.After-remainder) where
   abbrev v : ℤ
@@ -62,8 +67,9 @@ module _ (c : tie.After-remainder) where
       let f = sfits-le (mag-rem (shrZ v n) (pos 2)) quotient-fits in
       rw (e, eqb-bits (remZ (shrZ v n) (pos 2)) (pos 0) f (sfits-of (lit< tt)), even-is (shrZ v n))
 
-  chosen : {t : Bool} → Test ≡ t → rounded v n ≡ cond t (shrZ v n) (shrZ v n +ℤ pos 1)
-  chosen e = rw (rounded-is v p, ← test, e)
+  -- the quotient, and one more where it does not stay
+  sum : shrZ v n +ℤ back (pos 1 -ℤ bit Test) ≡ rounded v n
+  sum = stepped Test (shrZ v n) ∙ rw (test, ← rounded-is v p)
 
   rounded-fits : SFits w64 (rounded v n)
   rounded-fits =
@@ -82,22 +88,31 @@ remainder-requires c κs = search needs
 mul-twice : tie.Need-mul-twice
 mul-twice c = rw (left c) (twice c)
 
-rem-if1 : tie.Need-rem-if1
-rem-if1 c = rw (quotient c) (divides _ (pos 2) refl (quotient-fits c))
+rem-stays : tie.Need-rem-stays
+rem-stays c = rw (quotient c) (divides _ (pos 2) refl (quotient-fits c))
 
-next : (c : tie.Else1) → rounded (v (c .before)) (n (c .before)) ≡ shrZ (v (c .before)) (n (c .before)) +ℤ pos 1
-next c = chosen (c .before) (rw (quotient (c .before), left (c .before), toZ-ofZ (twice (c .before))) at (c .if1 .left))
+cast-result : tie.Need-cast-result
+cast-result c = search needs
+
+sub-result : tie.Need-sub-result
+sub-result c = rw (quotient c, left c, toZ-ofZ (twice c)) (other-bit-fits (Test c))
 
 add-result : tie.Need-add-result
-add-result c = rw (quotient (c .before), ← next c) (rounded-fits (c .before))
+add-result c = rw (quotient c, left c, toZ-ofZ (twice c), sum c) (rounded-fits c)
 
 returns : tie.Need-returns
-returns c =
-    let e : Test (c .before) ≡ true = rw (quotient (c .before), left (c .before), toZ-ofZ (twice (c .before))) at (c .if1 .taken) in
-    rw (quotient (c .before), chosen (c .before) e)
-
-returns-2 : tie.Need-returns-2
-returns-2 c = rw (quotient (c .before), ← next c) (toZ-ofZ (rounded-fits (c .before)))
+returns c = rw (quotient c, left c, toZ-ofZ (twice c), sum c) (toZ-ofZ (rounded-fits c))
 
 pub rounded-spec : {M : Type 1} → statement M
-rounded-spec = tie.close (tie.spec cast-n floored-requires remainder-requires mul-twice rem-if1 add-result returns returns-2)
+rounded-spec =
+    tie.close
+    (tie.spec
+    cast-n
+    floored-requires
+    remainder-requires
+    mul-twice
+    rem-stays
+    cast-result
+    sub-result
+    add-result
+    returns)

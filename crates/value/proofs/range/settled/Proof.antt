@@ -1,26 +1,23 @@
 -- `value::range::settled` meets its contract.
 -- Assumes nothing.
-use mathlib.Core.Path.{_≡_}
 use mir.Facts.{toZ-ofZ}
 use borrow.Author.Needs.{needs}
 use Rattle.value.specs.Range.{inRange, OVER, settled}
-use Rattle.value.proofs.Machine.{said}
+use Rattle.value.proofs.Machine.{back-is, said}
 use Rattle.value.proofs.range.settled.Statement.{statement}
 use Rattle.value.proofs.range.settled.Tie as tie
-
-test : (c : tie.After-in-range) → c .in-range .result ≡ inRange (c .before .args .v)
-test c = said inRange (c .before .fits .v) (c .in-range .ensures)
 
 in-range-requires : tie.Need-in-range-requires
 in-range-requires c κs = search needs
 
-returns : tie.Need-returns
-unfolding settled
-returns c = rw (toZ-ofZ (c .before .before .fits .v), ← test (c .before), c .if1 .taken)
+chosen-requires : tie.Need-chosen-requires
+chosen-requires c κs = search needs
 
-returns-2 : tie.Need-returns-2
+returns : tie.Need-returns
 unfolding settled OVER
-returns-2 c = rw (← test (c .before), c .if1 .left)
+returns c =
+    let v = c .before .before .fits .v in
+    rw (back-is (c .chosen .result) (c .chosen .ok), c .chosen .ensures, said inRange v (c .before .in-range .ensures), toZ-ofZ v)
 
 pub settled-spec : {M : Type 1} → statement M
-settled-spec = tie.close (tie.spec in-range-requires returns returns-2)
+settled-spec = tie.close (tie.spec in-range-requires chosen-requires returns)
