@@ -1,4 +1,6 @@
 // What the aggregates of a group are made of, one value after the other.
+#![tactic(auto)]
+
 ghost use Rattle.std.specs.Prelude.{◌≡◌};
 ghost use Rattle.accumulator.specs.promises.Accumulators as spec;
 
@@ -9,7 +11,7 @@ use value::choice::chosen;
 use value::range::{OVER, in_range, settled};
 
 // The values of a group so far: how many there are, at most 256, whether all are in range, their running sum, the smallest and the largest.
-#[derive(Drop)]
+#[derive(Clone, Copy)]
 pub struct Accumulator {
     pub rows: u32,
     pub exact: bool,

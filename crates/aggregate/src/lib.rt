@@ -1,4 +1,6 @@
 // What the aggregates of a group are made of. Values may be locked, so that none of these branches on them.
+#![tactic(auto)]
+
 ghost use Rattle.std.specs.Prelude.{◌≡◌, cond};
 ghost use Rattle.value.specs.Range.{of_both};
 ghost use Rattle.aggregate.specs.Aggregate.{smaller, larger, has_room, accumulated};

@@ -1,5 +1,7 @@
 // What the labels refuse of an APPLY. "32: APPLY .. forbidden by the first operand's label." "33: APPLY's second operand is not clear; in each
 // row after 32."
+#![tactic(auto)]
+
 ghost use Rattle.std.specs.Prelude.{◌≡◌, true, ◌+◌, ◌≤◌, ◌<◌, length, get_or, take, drop};
 ghost use Rattle.cells.specs.promises.Labelled.{column_formed_at};
 ghost use Rattle.cells.specs.promises.Search.{says};

@@ -1,10 +1,12 @@
 // The files that a program's arguments name.
+#![tactic(auto)]
+
 ghost use Rattle.io.specs.Counts.{IsPrefixLen};
 
 use libc::STDOUT_FILENO;
 
 // Whether a file could be opened, and how many bytes were read.
-#[derive(Drop)]
+#[derive(Clone, Copy)]
 pub struct File {
     pub opened: bool,
     pub length: usize,

@@ -1,4 +1,6 @@
 // The operations on one value or two. Cut and band are document 01's words. A value may be locked, so that none of these branches on one; k is the plan's.
+#![tactic(auto)]
+
 ghost use Rattle.std.specs.Prelude.{◌≡◌, ◌≤◌, ◌^◌, true, pos, nat_abs, ◌-ℤ◌, ◌*ℤ◌};
 ghost use Rattle.std.specs.Int.Signed.{le_z, quot_z};
 ghost use Rattle.value.specs.Division.{floored};

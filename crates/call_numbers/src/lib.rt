@@ -1,4 +1,6 @@
 // The answers of a run, of the input checks and of a conversion as numbers.
+#![tactic(auto)]
+
 ghost use Rattle.std.specs.Prelude.{[], ◌∷◌, ◌≡◌, ◌≤◌, get_or};
 ghost use Rattle.input.specs.Answers.{plan_tells, input_tells, input_says};
 ghost use Rattle.memory.specs.Refusals.{refusal_tells};

@@ -1,11 +1,13 @@
 // Rows with the same keys. Each row has a first row with its keys, and the rows with one first row make a chain.
+#![tactic(auto)]
+
 ghost use Rattle.chains.specs.promises.Chains as spec;
 
 mod hash;
 mod leader;
 
 // For each row the first row with its keys, and the next one; where there is none, how many rows there are.
-#[derive(Drop)]
+#[derive(Clone, Copy)]
 pub struct Chains {
     pub first: [usize; 256],
     pub next: [usize; 256],

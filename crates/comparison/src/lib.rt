@@ -1,4 +1,6 @@
 // The six comparisons, false where a number is out of range, and the equality of group keys.
+#![tactic(auto)]
+
 ghost use Rattle.std.specs.Prelude.{◌≡◌};
 ghost use Rattle.comparison.specs.Comparison.{equal, unequal, less, at_most, greater, at_least, same};
 

@@ -1,5 +1,7 @@
 // Runs the input checks on each container that the arguments name. Each line has the name and 'accepted' with the numbers of steps
 // and tables, or X with the refusal's number and its place.
+#![tactic(auto)]
+
 use input::{InputCheck, InputRefusal, PlanRefusal};
 use libc::STDOUT_FILENO;
 

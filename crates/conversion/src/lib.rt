@@ -1,4 +1,6 @@
 // The conversion of containers that were stored while a group minimum could be 1.
+#![tactic(auto)]
+
 mod raising;
 
 ghost use Rattle.std.specs.Prelude.{◌≡◌};
@@ -9,7 +11,7 @@ ghost use Rattle.input.specs.promises.Checks.{input_says};
 use input::{InputCheck, InputRefusal};
 
 // What a conversion answers: how many labels it changed, or that a slice is too short, or what the check finds.
-#[derive(Drop)]
+#[derive(Clone, Copy)]
 pub enum ConversionAnswer {
     Converted(usize),
     TooShort,

@@ -1,6 +1,8 @@
 // The conversion program: reads a container from standard input, and writes it with each group minimum of 1 raised to 2 to standard output, and
 // the offset of each label changed, one a line, to standard error. Of a container that the check before #107 refuses it writes nothing to
 // standard output, and the X line to standard error.
+#![tactic(auto)]
+
 use call_numbers::conversion_numbers;
 use libc::{STDERR_FILENO, STDIN_FILENO, STDOUT_FILENO};
 

@@ -1,4 +1,6 @@
 // A table's comma-separated text, read into a slice that the caller lends.
+#![tactic(auto)]
+
 mod read;
 mod spot;
 

@@ -7,7 +7,7 @@ use crate::spot::{Spot, is_digit, next};
 
 // What reading a text answers: a table of so many columns and rows; the first byte where the bytes can no longer be a text, or their length
 // if they are cut short; or that the slice has no room for the table's values.
-#[derive(Drop)]
+#[derive(Clone, Copy)]
 pub enum TextReading {
     Table(usize, usize),
     Wrong(usize),
@@ -15,7 +15,7 @@ pub enum TextReading {
 }
 
 // What a pass over the bytes finds: a table of so many columns, rows and values, or the place where the bytes fail.
-#[derive(Drop)]
+#[derive(Clone, Copy)]
 enum Pass {
     Table(usize, usize, usize),
     Wrong(usize),

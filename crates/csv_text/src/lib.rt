@@ -1,5 +1,7 @@
 // What is fixed of a table's text: the header's names and the end of a line. The writer copies them from here, and the reader compares with
 // them.
+#![tactic(auto)]
+
 ghost use Rattle.std.specs.Prelude.{◌≡◌, get_or};
 ghost use Rattle.csv_text.specs.Text.{names, line_end};
 

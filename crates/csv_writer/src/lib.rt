@@ -1,4 +1,6 @@
 // A table's comma-separated text, written: its length, and the text itself into a slice that the caller lends.
+#![tactic(auto)]
+
 mod length;
 mod write;
 

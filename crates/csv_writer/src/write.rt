@@ -113,7 +113,7 @@ fn put_rows(text: &mut [u8], at: usize, values: &[i64], count: usize, columns: u
 }
 
 // What writing a text answers: its length; that the slice is shorter than the text; or that the values have no such table.
-#[derive(Drop)]
+#[derive(Clone, Copy)]
 pub enum TextWriting {
     Written(usize),
     TooShort,

@@ -8,9 +8,9 @@ use lib.Dec.{leb}
 use lib.ListN.{length, take, length-map}
 use lib.Seq.{take_at}
 use borrow.Author.Tests.{leb-true, leb-false, le-leb, lt-leb}
-use Rattle.csv.specs.Propositions.{IsTable}
-use Rattle.csv.proofs.LongestProof.{longest-text}
-use Rattle.csv.proofs.ReadsBackProof.{text-reads-back}
+use Rattle.csv_table.specs.Propositions.{IsTable}
+use Rattle.csv_table.proofs.LongestProof.{longest-text}
+use Rattle.csv_table.proofs.ReadsBackProof.{text-reads-back}
 use Rattle.csv_reader.specs.Reader as reader
 use Rattle.csv_text.specs.Text.{value_rows, table_text}
 use Rattle.input.specs.Verdict.{InputVerdict, accepted, rejected}

@@ -1,4 +1,6 @@
 // The directory of a container or of an overlay: one pair for each part, its offset and its length.
+#![tactic(auto)]
+
 ghost use Rattle.std.specs.Prelude.{◌≡◌, ℕ};
 ghost use Rattle.directory.specs.Directory.{check_directory};
 ghost use Rattle.directory.specs.promises.Answers.{directory_says};
@@ -6,7 +8,7 @@ ghost use Rattle.directory.specs.promises.Answers.{directory_says};
 use layout::{part_length, part_offset};
 
 // What the check of a directory answers: every pair is right, or the place of the first that is not.
-#[derive(Drop)]
+#[derive(Clone, Copy)]
 pub enum DirectoryCheck {
     Right,
     Wrong(usize),

@@ -1,5 +1,7 @@
 // The export program: reads a container from standard input, and writes the text of the release to standard output. Of a refusal it writes
 // nothing there, and the X line to standard error. It lends no draws.
+#![tactic(auto)]
+
 use libc::STDIN_FILENO;
 
 // One byte more than the limit is read, so that a longer container shows.

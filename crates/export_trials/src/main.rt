@@ -1,4 +1,6 @@
 // Runs each container that the arguments name with several lengths of the slice for the text, and prints what each call answers, and the text.
+#![tactic(auto)]
+
 use libc::STDOUT_FILENO;
 
 // More than the longest text.

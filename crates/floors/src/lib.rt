@@ -1,4 +1,6 @@
 // The floor of ten, on the labels of a table in work memory.
+#![tactic(auto)]
+
 ghost use Rattle.std.specs.Prelude.{◌≡◌, ◌+◌, ◌≤◌, length};
 ghost use Rattle.floors.specs.promises.Flooring.{floored_at, after_floor};
 

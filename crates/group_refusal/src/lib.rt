@@ -1,4 +1,6 @@
 // What the labels refuse of a GROUP: 31 over all keys, and then 32. "In GROUP, after all keys."
+#![tactic(auto)]
+
 ghost use Rattle.std.specs.Prelude.{◌≡◌, true};
 ghost use Rattle.cells.specs.promises.Labelled.{column_formed_at};
 ghost use Rattle.cells.specs.promises.Search.{says};

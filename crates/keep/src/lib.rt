@@ -1,4 +1,6 @@
 // The step KEEP over work memory.
+#![tactic(auto)]
+
 mod keeping;
 
 pub use keeping::keep;

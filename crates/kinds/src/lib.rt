@@ -1,4 +1,6 @@
 // What goes by a step's kind: its number, the tables that it takes off the stack, and the draws that it uses. A further kind adds a line to each list here.
+#![tactic(auto)]
+
 mod draws;
 mod numbers;
 mod tables;

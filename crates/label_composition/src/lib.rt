@@ -1,4 +1,6 @@
 // Composition of two labels.
+#![tactic(auto)]
+
 mod composition;
 mod packing;
 

@@ -1,4 +1,6 @@
 // Discharge of a label.
+#![tactic(auto)]
+
 mod discharge;
 mod level_n;
 

@@ -1,4 +1,6 @@
 // A label under the floor of ten.
+#![tactic(auto)]
+
 ghost use Rattle.std.specs.Prelude.{◌≡◌};
 ghost use Rattle.label_floor.specs.Floor.{floored};
 

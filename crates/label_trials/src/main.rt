@@ -1,5 +1,7 @@
 // Runs the label library on the examples of document 01 and on words and operations that tell its rules apart. Each line has
 // the inputs and the answer, labels in hexadecimal.
+#![tactic(auto)]
+
 use label::{Highest, LabelAnswer};
 use libc::STDOUT_FILENO;
 

@@ -1,4 +1,6 @@
 // Words of 32 bits as labels: their fields, the stages that they have, and which of them are labels.
+#![tactic(auto)]
+
 mod fields;
 mod test;
 
@@ -6,7 +8,7 @@ pub use fields::{bit, field};
 pub use test::{highest_stage, stage_count, well_formed, well_formed_from};
 
 // The highest stage present.
-#[derive(Drop)]
+#[derive(Clone, Copy)]
 pub enum Highest {
     H,
     T,
@@ -17,7 +19,7 @@ pub enum Highest {
 
 // What composition and discharge answer: a label; the operation is forbidden on the label; the word is
 // no label (15); the operation does not exist (17).
-#[derive(Drop)]
+#[derive(Clone, Copy)]
 pub enum LabelAnswer {
     Label(u32),
     Forbidden,

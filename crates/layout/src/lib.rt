@@ -1,4 +1,6 @@
 // The container's layout: its part count and rule year, and where each part stands by its pair of the directory.
+#![tactic(auto)]
+
 ghost use Rattle.std.specs.Prelude.{◌≡◌, ◌+◌, ◌≤◌, min, leb};
 ghost use Rattle.layout.specs.Layout.{part_count, rule_year, pair_at, offset_of, length_of, part_of};
 ghost use Rattle.little_endian.specs.Bytes.{number_at};

@@ -1,4 +1,6 @@
 // The checks of a container's length, its part count, its rule year and its directory.
+#![tactic(auto)]
+
 ghost use Rattle.std.specs.Prelude.{◌≡◌};
 ghost use Rattle.directory.specs.Directory.{check_directory};
 ghost use Rattle.input.specs.Verdict.{and_then};

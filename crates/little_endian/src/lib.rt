@@ -1,4 +1,6 @@
 // Little-endian numbers in bytes. A byte past the end counts as 0, so that every read is defined.
+#![tactic(auto)]
+
 ghost use Rattle.std.specs.Prelude.{◌≡◌, ◌+◌, ◌≤◌, ◌<◌, length};
 ghost use Rattle.little_endian.specs.Bytes.{number_at, byte_at};
 

@@ -1,6 +1,8 @@
 // The live tables of work memory: two lent slices, values and labels, of which the first 8,192 elements are used as four slots of 2,048 cells. The
 // table at place i of the stack stands in slot i, row by row; the last slot is for a table that is being made. A third slice has the marks
 // of the rows, four slots of 256.
+#![tactic(auto)]
+
 mod live;
 
 pub use live::{live_table, no_tables, ready, with_table};
@@ -20,7 +22,7 @@ pub const LAST_MARKS: usize = 768;
 pub const MARK_ROOM: usize = 1024;
 
 // The live tables: how many there are, and the rows and columns of each, the first pushed first.
-#[derive(Drop)]
+#[derive(Clone, Copy)]
 pub struct Stack {
     pub depth: usize,
     pub rows: [usize; 3],
@@ -28,7 +30,7 @@ pub struct Stack {
 }
 
 // A live table: its slot, the places at which that and its marks begin, and its rows and columns.
-#[derive(Drop)]
+#[derive(Clone, Copy)]
 pub struct LiveTable {
     pub slot: usize,
     pub at: usize,

@@ -1,4 +1,6 @@
 // Rows with the same mark.
+#![tactic(auto)]
+
 ghost use Rattle.std.specs.Prelude.{◌≡◌, ◌+◌, ◌≤◌, ◌<◌, length};
 ghost use Rattle.mark_numbers.specs.promises.Numbers as spec;
 

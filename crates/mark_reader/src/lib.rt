@@ -1,4 +1,6 @@
 // The marks of a table part's rows, read into a slice that the caller lends.
+#![tactic(auto)]
+
 ghost use Rattle.std.specs.Prelude.{◌≡◌, cond, ◌+◌, ◌*◌, ◌≤◌, ◌<◌, length};
 ghost use Rattle.cells.specs.promises.Written.{Written};
 ghost use Rattle.mark_reader.specs.promises.Marks as spec;

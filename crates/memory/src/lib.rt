@@ -1,4 +1,6 @@
 // Work memory: its live tables, whether a step fits them, and what a step answers.
+#![tactic(auto)]
+
 mod fitting;
 
 pub use fitting::fit;
@@ -8,7 +10,7 @@ pub use live_tables::{
 };
 
 // What a step refuses because of the state, with its row and column: 31, 32, 33, 34, whose place is fixed, and 37.
-#[derive(Drop)]
+#[derive(Clone, Copy)]
 pub enum Refusal {
     NotClear(usize, usize),
     Forbidden(usize, usize),
@@ -18,7 +20,7 @@ pub enum Refusal {
 }
 
 // What a step answers: it made its table, it is refused, or its arguments do not fit.
-#[derive(Drop)]
+#[derive(Clone, Copy)]
 pub enum StepAnswer {
     Made,
     Refused(Refusal),
@@ -26,7 +28,7 @@ pub enum StepAnswer {
 }
 
 // A step's answer, and the stack after it.
-#[derive(Drop)]
+#[derive(Clone, Copy)]
 pub struct Stepped {
     pub answer: StepAnswer,
     pub stack: Stack,

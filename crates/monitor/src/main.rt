@@ -1,5 +1,7 @@
 // The monitor program: reads a container from standard input, and prints the release with its trace, or the refusal with its place. It lends
 // no draws.
+#![tactic(auto)]
+
 use libc::STDIN_FILENO;
 
 // One byte more than the limit is read, so that a longer container shows.

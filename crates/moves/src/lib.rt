@@ -1,4 +1,6 @@
 // Moves of cells and of marks in work memory.
+#![tactic(auto)]
+
 ghost use Rattle.std.specs.Prelude.{◌≡◌, cond, length};
 ghost use Rattle.cells.specs.promises.Cells as spec;
 

@@ -1,5 +1,7 @@
 // What the labels and the draws left refuse of a NOISE. #102: "forbidden with 32 where T, A or H stands highest"; "37 at a row for which no draw
 // is left, column a, after 32 in that row".
+#![tactic(auto)]
+
 ghost use Rattle.std.specs.Prelude.{◌≡◌, true};
 ghost use Rattle.cells.specs.promises.Labelled.{column_formed_at};
 ghost use Rattle.cells.specs.promises.Search.{says};

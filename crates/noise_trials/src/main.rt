@@ -1,5 +1,7 @@
 // Runs each container that the arguments name, lent the draws in the file of the argument after it: its name on a line, and then what the monitor
 // prints of it.
+#![tactic(auto)]
+
 mod draws;
 
 use libc::STDOUT_FILENO;

@@ -1,4 +1,6 @@
 // Values with noise (#102).
+#![tactic(auto)]
+
 ghost use Rattle.std.specs.Prelude.{◌≡◌, ◌&&◌, ◌-◌, ◌^◌, pos, negsuc};
 ghost use Rattle.std.specs.Int.Signed.{le_z};
 ghost use Rattle.noise_value.specs.Noise.{noisy};

@@ -1,4 +1,6 @@
 // The second operand of FILTER and APPLY: a constant, or a column of the row.
+#![tactic(auto)]
+
 ghost use Rattle.std.specs.Prelude.{◌≡◌, ◌+◌, pos, get_or};
 ghost use Rattle.operand.specs.promises.Operands as spec;
 

@@ -1,4 +1,6 @@
 // The checks of an overlay against its container.
+#![tactic(auto)]
+
 ghost use Rattle.std.specs.Prelude.{◌≡◌};
 ghost use Rattle.input.specs.promises.Checks.{input_says};
 ghost use Rattle.overlay_check.specs.OverlayCheck as spec;

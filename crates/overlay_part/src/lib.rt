@@ -1,4 +1,6 @@
 // A part of an overlay: whether it fits its table, and the check of its labels.
+#![tactic(auto)]
+
 ghost use Rattle.std.specs.Prelude.{◌≡◌, ◌+◌, ◌^◌, ◌<◌};
 ghost use Rattle.input.specs.promises.Checks.{input_says};
 ghost use Rattle.overlay_part.specs.Labels as spec;

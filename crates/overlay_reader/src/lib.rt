@@ -1,4 +1,6 @@
 // The labels of an overlay, composed onto those of a table in work memory.
+#![tactic(auto)]
+
 ghost use Rattle.std.specs.Prelude.{◌≡◌, ◌+◌, ◌≤◌, length};
 ghost use Rattle.overlay_reader.specs.promises.Composing as spec;
 

@@ -1,5 +1,7 @@
 // Runs each container that the arguments name, lent the four overlays in the files of the arguments after it, of which any may be empty: its name on a
 // line, and then what the monitor prints of it, lent no draws.
+#![tactic(auto)]
+
 use libc::STDOUT_FILENO;
 use std::num::wrapping_add_usize;
 

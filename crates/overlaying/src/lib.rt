@@ -1,4 +1,6 @@
 // The overlays, composed onto the table that a SCAN has pushed, and the floor of its rule year.
+#![tactic(auto)]
+
 ghost use Rattle.std.specs.Prelude.{[], ◌∷◌, ◌≡◌};
 ghost use Rattle.overlaying.specs.promises.Overlaying.{after_step};
 

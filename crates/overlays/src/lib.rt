@@ -1,4 +1,6 @@
 // All input checks: those of the container, then those of the overlays.
+#![tactic(auto)]
+
 ghost use Rattle.std.specs.Prelude.{[], ◌∷◌, ◌≡◌};
 ghost use Rattle.input.specs.promises.Checks.{input_says};
 ghost use Rattle.overlays.specs.Overlays.{check_all};

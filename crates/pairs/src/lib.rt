@@ -1,4 +1,6 @@
 // The rows of a join, made in the last slot of work memory, above the two tables.
+#![tactic(auto)]
+
 ghost use Rattle.std.specs.Prelude.{◌≡◌};
 ghost use Rattle.cells.specs.promises.Work.{memory_of};
 ghost use Rattle.pairs.specs.promises.Pairs as spec;
@@ -8,7 +10,7 @@ mod rows;
 use memory::{LAST_MARKS, LAST_SLOT, MARK_ROOM, ROOM};
 
 // A table of the join: where it and its marks begin in work memory, its rows and columns, and its key column.
-#[derive(Drop)]
+#[derive(Clone, Copy)]
 pub struct Side {
     pub at: usize,
     pub marks: usize,

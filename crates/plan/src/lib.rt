@@ -1,8 +1,9 @@
 // A plan's steps, as the code and the definitions of the monitor both have them. A table, a column and a mask are named by
 // their numbers in the plan. What a plan means stands in specs/.
+#![tactic(auto)]
 
 // FILTER's comparisons.
-#[derive(Drop)]
+#[derive(Clone, Copy)]
 pub enum Comparison {
     Equal,
     Unequal,
@@ -13,14 +14,14 @@ pub enum Comparison {
 }
 
 // The second operand of FILTER and of APPLY's add and sub.
-#[derive(Drop)]
+#[derive(Clone, Copy)]
 pub enum Operand {
     Constant(i64),
     Column(usize),
 }
 
 // APPLY's operations; cut and band are document 01's words. A cut has its digits, a band its width.
-#[derive(Drop)]
+#[derive(Clone, Copy)]
 pub enum Transform {
     Add(Operand),
     Sub(Operand),
@@ -29,7 +30,7 @@ pub enum Transform {
 }
 
 // GROUP's aggregates.
-#[derive(Drop)]
+#[derive(Clone, Copy)]
 pub enum Aggregate {
     Count,
     Sum,
@@ -39,7 +40,7 @@ pub enum Aggregate {
 }
 
 // The eight steps. In a mask, bit i stands for column i.
-#[derive(Drop)]
+#[derive(Clone, Copy)]
 pub enum Step {
     Scan {
         table: usize,

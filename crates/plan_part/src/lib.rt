@@ -1,4 +1,6 @@
 // A plan part: how many steps it has, and the step at an index.
+#![tactic(auto)]
+
 ghost use Rattle.std.specs.Prelude.{◌≡◌};
 ghost use Rattle.plan_part.specs.PlanPart.{step_count};
 ghost use Rattle.plan_part.specs.promises.Steps.{step_at};

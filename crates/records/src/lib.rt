@@ -1,4 +1,6 @@
 // A plan's records: the step of each, where the record is as it should be.
+#![tactic(auto)]
+
 use plan::Step;
 
 mod record;
@@ -6,7 +8,7 @@ mod record;
 pub use record::found_at;
 
 // A step's record: its five bytes, the three bytes that are zero as one number, and the bits of its constant.
-#[derive(Drop)]
+#[derive(Clone, Copy)]
 pub struct Fields {
     pub kind: usize,
     pub a: usize,
@@ -18,7 +20,7 @@ pub struct Fields {
 }
 
 // A step, if a record has one.
-#[derive(Drop)]
+#[derive(Clone, Copy)]
 pub enum Found {
     Step(Step),
     Nothing,

@@ -1,4 +1,6 @@
 // The release of the table that a plan leaves.
+#![tactic(auto)]
+
 ghost use Rattle.std.specs.Prelude.{◌*◌, ◌≤◌};
 ghost use Rattle.cells.specs.promises.Work.{work};
 ghost use Rattle.release.specs.promises.Release.{room_reply, release_reply, Releases};
@@ -8,7 +10,7 @@ use csv_writer::TextWriting;
 
 // What a release answers: the table is released with a text of so many bytes; 35 or 36 at a row and column; 51, where the text has no room; or
 // that there is no table of that size in the slices, or no room for it in the output.
-#[derive(Drop)]
+#[derive(Clone, Copy)]
 pub enum ReleaseAnswer {
     Released(usize),
     StageLeft(usize, usize),

@@ -1,5 +1,7 @@
 // What the programs print of a container: S lines for the finished steps, then R lines for the released rows, or X with the refusal's
 // number and its place; or the text of the release.
+#![tactic(auto)]
+
 mod printed;
 
 ghost use Rattle.std.specs.Prelude.{[]};

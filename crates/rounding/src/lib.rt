@@ -1,4 +1,6 @@
 // The average of a group, from its exact sum and its rows.
+#![tactic(auto)]
+
 ghost use Rattle.std.specs.Prelude.{◌≡◌, ◌<◌, pos};
 ghost use Rattle.value.specs.Division.{floored};
 ghost use Rattle.rounding.specs.Rounding.{distance, rounded, average};

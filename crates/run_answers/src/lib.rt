@@ -1,4 +1,6 @@
 // What a run answers.
+#![tactic(auto)]
+
 ghost use Rattle.std.specs.Prelude.{◌≡◌};
 ghost use Rattle.run_answers.specs.Answers.{run_says};
 ghost use Rattle.run_answers.specs.promises.Releases.{release_tells};
@@ -10,7 +12,7 @@ use release::ReleaseAnswer;
 // A release with its rows, its columns and the bytes of its text, or a refusal. 1 is `TooShort`; a refusal of the input, 11 to 22, has its
 // place, and one of a step, 31 to 34 or 37, the step's number; 35 is `StageLeft` and 36 `Over`, at a step, row and column; 51 is `NoRoom`, at the
 // number of steps.
-#[derive(Drop)]
+#[derive(Clone, Copy)]
 pub enum RunAnswer {
     Released(usize, usize, usize),
     TooShort,

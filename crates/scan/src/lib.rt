@@ -1,4 +1,6 @@
 // SCAN: a table of the container, read into the next slot of work memory.
+#![tactic(auto)]
+
 mod scanning;
 
 pub use scanning::scan;

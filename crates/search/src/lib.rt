@@ -1,4 +1,6 @@
 // Searches over the labels of a table.
+#![tactic(auto)]
+
 ghost use Rattle.std.specs.Prelude.{◌≡◌, ℕ};
 ghost use Rattle.cells.specs.promises.Labelled.{column_formed_at};
 ghost use Rattle.cells.specs.promises.Search as spec;

@@ -1,4 +1,6 @@
 // The check of a table part's column of sheet numbers.
+#![tactic(auto)]
+
 ghost use Rattle.std.specs.Prelude.{◌≡◌, not, ◌&&◌, ◌+◌, ◌*◌, ◌^◌, ◌<◌};
 ghost use Rattle.little_endian.specs.Bytes.{number_at};
 ghost use Rattle.plan.specs.Table.{clear};

@@ -1,4 +1,6 @@
 // One step of a plan over work memory.
+#![tactic(auto)]
+
 mod taking;
 
 pub use taking::take_step;

@@ -8,7 +8,7 @@ use plan::Step;
 use step::take_step;
 
 // How much of work memory and of the container is lent.
-#[derive(Drop)]
+#[derive(Clone, Copy)]
 pub struct Lent {
     pub values: usize,
     pub labels: usize,

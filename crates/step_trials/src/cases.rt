@@ -12,7 +12,7 @@ use value::pattern::signed;
 
 // A step; a NOISE of a column, with how many draws and these, at most four; or, by the number of its shape, a container, stages left, first
 // OVER, a trace line, so many values from a place on as an output, or memory set to zero.
-#[derive(Drop)]
+#[derive(Clone, Copy)]
 pub enum Case {
     Step(Step),
     Noise(usize, usize, i64, i64, i64, i64),

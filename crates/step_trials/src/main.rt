@@ -3,6 +3,8 @@
 // it stands in memory, and its answer: the live tables after the step, a refusal with its row and column, or that the arguments do not fit.
 // A line `container` has the bytes of which SCAN reads so many. Behind the colon `8191 values,`, `8191 labels,` or `1023 marks,` lends so many. Lines that
 // begin with `#` say something to the reader, and a line that can't be read is printed as such.
+#![tactic(auto)]
+
 mod answers;
 mod cases;
 mod printing;

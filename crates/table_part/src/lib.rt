@@ -1,4 +1,6 @@
 // A table part by its header: its columns, rows and cells.
+#![tactic(auto)]
+
 ghost use Rattle.std.specs.Prelude.{◌≡◌};
 ghost use Rattle.table_part.specs.TablePart.{cell_count};
 ghost use Rattle.table_part.specs.promises.Shape.{shape_of};
@@ -6,7 +8,7 @@ ghost use Rattle.table_part.specs.promises.Shape.{shape_of};
 use little_endian::{byte, two};
 
 // A table part's columns and rows.
-#[derive(Drop)]
+#[derive(Clone, Copy)]
 pub struct Shape {
     pub columns: usize,
     pub rows: usize,

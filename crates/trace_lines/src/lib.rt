@@ -1,4 +1,6 @@
 // The trace: the stages left on a table in work memory, and a finished step's line. Each function takes every argument and tests it itself.
+#![tactic(auto)]
+
 mod lines;
 mod stages;
 

@@ -1,4 +1,6 @@
 // Runs each container that the arguments name: its name on a line, and then what the monitor prints of it, lent no draws.
+#![tactic(auto)]
+
 use libc::STDOUT_FILENO;
 
 fn main() {

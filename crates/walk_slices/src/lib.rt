@@ -1,4 +1,6 @@
 // What a walk asks of the slices that it is lent, and the trace line of a finished step.
+#![tactic(auto)]
+
 ghost use Rattle.std.specs.Prelude.{◌≡◌};
 ghost use Rattle.walk_slices.specs.promises.Slices.{walk_room, LineWritten};
 

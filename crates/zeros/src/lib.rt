@@ -1,4 +1,6 @@
 // Work memory as a run leaves it.
+#![tactic(auto)]
+
 ghost use Rattle.cells.specs.promises.Work.{memory_of};
 ghost use Rattle.zeros.specs.promises.Zeros.{Cleared};
 

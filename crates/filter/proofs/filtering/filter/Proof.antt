@@ -99,7 +99,7 @@ returns-3 c =
     let l = searched n in
     let a = (start l).args in
     λ supply. filter-refused a.column a.comparison a.operand supply (memory_of a.values.now a.labels.now a.marks.now) a.stack (room l) (marks-too a.marks.now (room l) (fitted l).0) (parts l)
-    _ n.before.read_by_lem.ensures _ _ (ap (place_says 31 0) (sym refused.before.row.given.1) ∙ n.not-clear.ensures 31 0)
+    _ n.before.read_by.ensures _ _ (ap (place_says 31 0) (sym refused.before.row.given.1) ∙ n.not-clear.ensures 31 0)
 
 same-length-2 : tie.Need-same-length-2
 same-length-2 c = search rules
@@ -111,7 +111,7 @@ returns-4 c =
     let l = searched n in
     let a = (start l).args in
     λ supply. absurd (filter-fits-still a.column a.comparison a.operand supply (memory_of a.values.now a.labels.now a.marks.now) a.stack (room l) (marks-too a.marks.now (room l) (fitted l).0) (parts l)
-    _ n.before.read_by_lem.ensures (ap (place_says 31 0) (sym c.enum-told2.given.1) ∙ n.not-clear.ensures 31 0))
+    _ n.before.read_by.ensures (ap (place_says 31 0) (sym c.enum-told2.given.1) ∙ n.not-clear.ensures 31 0))
 
 same-length-3 : tie.Need-same-length-3
 same-length-3 c = search rules
@@ -130,7 +130,7 @@ returns-5 c =
     let l = searched n in
     let a = (start l).args in
     λ supply. rw c.with-table.ensures (filter-made a.column a.comparison a.operand supply (memory_of a.values.now a.labels.now a.marks.now) a.stack (room l) (marks-too a.marks.now (room l) (fitted l).0) (parts l)
-    _ n.before.read_by_lem.ensures _ (ap (place_says 31 0) (sym f.before.before.before.before.enum-told3.given.1) ∙ n.not-clear.ensures 31 0) f.filter-rows.ensures)
+    _ n.before.read_by.ensures _ (ap (place_says 31 0) (sym f.before.before.before.before.enum-told3.given.1) ∙ n.not-clear.ensures 31 0) f.filter-rows.ensures)
 
 pub filter-spec : {M : Type 1} → statement M
 filter-spec =

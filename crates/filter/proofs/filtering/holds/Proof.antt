@@ -57,7 +57,7 @@ returns-5 : tie.Need-returns-5
 returns-5 c = rw c.before.enum-told5.given.1 (said₂ greater c.before.before.before.ranges.a c.before.before.before.ranges.b c.greater.ensures)
 
 returns-6 : tie.Need-returns-6
-returns-6 c = rw c.before.enum-told6.given.1 (said₂ at_least c.before.before.before.ranges.a c.before.before.before.ranges.b c.at_least_lem.ensures)
+returns-6 c = rw c.before.enum-told6.given.1 (said₂ at_least c.before.before.before.ranges.a c.before.before.before.ranges.b c.at_least.ensures)
 
 pub holds-spec : {M : Type 1} → statement M
 holds-spec =

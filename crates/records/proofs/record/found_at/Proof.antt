@@ -14,7 +14,7 @@ step-of-requires : tie.Need-step-of-requires
 step-of-requires c κs = search rules
 
 returns : tie.Need-returns
-returns c = c.step_of_lem.ensures ∙ ap step_of c.before.fields_at.ensures.same
+returns c = c.step_of.ensures ∙ ap step_of c.before.fields_at.ensures.same
 
 returns-2 : tie.Need-returns-2
 returns-2 c = let a = c.before.before.args in past-plan a.plan.now a.step (omega arith)

@@ -10,13 +10,13 @@ use lib.ListN.{length, take, length-append}
 use borrow.Author.Tests.{leb-true, leb-false, eq-eqb}
 use Rattle.csv_text.specs.Text.{cut}
 use Rattle.csv_reader.specs.Reader.{table, fails_at, next_spot, ended, rows_ended, is_wrong, at_end, read_from, read_text}
-use Rattle.csv.specs.Propositions.{IsText, BreaksAt, FailsFirst}
+use Rattle.csv_table.specs.Propositions.{IsText, BreaksAt, FailsFirst}
 use Rattle.csv_reader.specs.declared.spot.Spot.{Spot}
 use Rattle.csv_reader.specs.declared.spot.Spot.TheVariants.{Names, Header, Value, Minus, Digits, Row, Wrong}
 use Rattle.csv_reader.proofs.Steps.{step, Shape, shape-next}
 use Rattle.csv_reader.proofs.Reading.{read-on, read-stops, few-columns, many-columns}
-use Rattle.csv.proofs.OneTextProof.{one-text}
-use Rattle.csv.proofs.ReadsBackProof.{Goes, then-goes, one-goes, name-goes, return-goes, feed-goes, from-value, from-minus, last_goes, other_goes, row_goes, text-reads-back}
+use Rattle.csv_table.proofs.OneTextProof.{one-text}
+use Rattle.csv_table.proofs.ReadsBackProof.{Goes, then-goes, one-goes, name-goes, return-goes, feed-goes, from-value, from-minus, last_goes, other_goes, row_goes, text-reads-back}
 
 -- ---- from every spot to the end of a line
 

@@ -17,7 +17,7 @@ use Rattle.value.specs.Pattern.{negative, magnitude_of}
 use Rattle.value.proofs.Sizes.{in_size}
 use Rattle.csv_text.specs.Text.{names, header, digits, decimal, line, lines, text_of, cut}
 use Rattle.csv_reader.specs.Reader.{largest, is_digit, digit_of, value_of, after_names, after_return, after_separator, after_minus, after_digits, next_spot, ended, rows_ended, is_wrong, at_end, read_from}
-use Rattle.csv.specs.Propositions.{TextReadsBack}
+use Rattle.csv_table.specs.Propositions.{TextReadsBack}
 use Rattle.csv_reader.specs.promises.Reading.{concat}
 use Rattle.csv_reader.specs.declared.spot.Spot.{Spot}
 use Rattle.csv_reader.specs.declared.spot.Spot.TheVariants.{Names, Header, Value, Minus, Digits, Row}

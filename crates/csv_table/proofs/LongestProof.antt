@@ -12,7 +12,7 @@ use Rattle.value.specs.Range.{in_range, least, most}
 use Rattle.value.specs.Pattern.{negative, magnitude_of}
 use Rattle.value.proofs.Sizes.{in_size}
 use Rattle.csv_text.specs.Text.{digits_of, digits, decimal, line, lines, text_of}
-use Rattle.csv.specs.Propositions.{LongestText}
+use Rattle.csv_table.specs.Propositions.{LongestText}
 use Rattle.csv_writer.proofs.Cells.{header-length}
 use Rattle.csv_writer.proofs.Digits.{few, minus-first, no_minus}
 

@@ -17,7 +17,7 @@ use Rattle.value.specs.Pattern.{negative, magnitude_of}
 use Rattle.value.proofs.Sizes.{size_in}
 use Rattle.csv_text.specs.Text.{names, header, digits, decimal, text_of, cut}
 use Rattle.csv_reader.specs.Reader.{Read, table, fails_at, largest, is_digit, digit_of, value_of, next_spot, ended, rows_ended, is_wrong, at_end, read_from, read_text}
-use Rattle.csv.specs.Propositions.{IsTable, OneText}
+use Rattle.csv_table.specs.Propositions.{IsTable, OneText}
 use Rattle.csv_writer.specs.promises.Cells.{separator, spelled}
 use Rattle.csv_reader.specs.declared.spot.Spot.{Spot}
 use Rattle.csv_reader.specs.declared.spot.Spot.TheVariants.{Names, Header, Value, Minus, Digits, Row, Wrong}

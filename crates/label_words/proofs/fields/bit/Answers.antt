@@ -1,0 +1,6 @@
+-- `label_words::fields::bit` meets its contract. Assumes nothing.
+use borrow.Author.Rules.{rules}
+use Rattle.label_words.proofs.fields.bit.Goals as goal
+
+pub returns : goal.returns
+returns c = rw c.field.ensures
