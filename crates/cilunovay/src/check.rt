@@ -6,8 +6,7 @@ use call_numbers::check_numbers;
 
 // Checks a container, writes document 01's number and the byte offset after it to the answer's start, and answers the number: 0, and
 // offset 0, where the container is accepted. Where the answer has fewer than two elements, it stays as it is and the number is 1.
-#[unsafe(no_mangle)]
-pub extern "C" fn cilunovay_check(container: &[u8], answer: &mut [u64]) -> u32
+pub fn cilunovay_check(container: &[u8], answer: &mut [u64]) -> u32
     ensures { check_called result answer.new ≡ check_call container.now answer.old }
 {
     if answer.len() < 2 {

@@ -6,8 +6,7 @@ use call_numbers::conversion_numbers;
 
 // Converts a container, writes 0 and the number of labels changed, or document 01's number and place, to the answer's start, and answers the
 // first. Where the answer has fewer than two elements, nothing lent changes and the number is 1.
-#[unsafe(no_mangle)]
-pub extern "C" fn cilunovay_convert(
+pub fn cilunovay_convert(
     container: &[u8],
     converted: &mut [u8],
     offsets: &mut [u32],

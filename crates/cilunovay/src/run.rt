@@ -8,8 +8,7 @@ use call_numbers::run_numbers;
 
 // Runs the monitor, writes the number of its answer and the three numbers after it to the answer's start, and answers the number: 0 for a
 // release. Where the answer has fewer than four elements, nothing lent changes and the number is 1.
-#[unsafe(no_mangle)]
-pub extern "C" fn cilunovay_run(
+pub fn cilunovay_run(
     container: &[u8],
     draws: &[i64],
     overlay_0: &[u8],

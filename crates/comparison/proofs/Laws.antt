@@ -1,6 +1,6 @@
 -- The six comparisons: false with a number out of range, and the orders of whole numbers elsewhere. And the equality of group keys.
 -- Assumes nothing.
-use mathlib.Core.Path.{◌≡◌, refl, sym, ap, ◌∙◌}
+use mathlib.Core.Path.{◌≡◌, refl, sym, ◌∙◌}
 use mathlib.Core.Bool.{Bool, true, false, not, ◌&&◌, ◌||◌, false≢true, and-eq-true_iff}
 use Prim.Native.Nat.{ℕ}
 use native.Mathlib.Nat.{le_of_lt, le_of_eq}

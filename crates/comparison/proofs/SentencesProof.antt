@@ -7,7 +7,7 @@ use lib.IntN.{ℤ}
 use lib.Signed.{lt_z, le_z, ◌≤ℤ◌, ◌<ℤ◌}
 use borrow.Author.Tests.{not-true}
 use Rattle.value.specs.Range.{in_range, both_in_range, OVER}
-use Rattle.comparison.specs.Comparison.{equal, unequal, less, at_most, greater, at_least, same}
+use Rattle.comparison.specs.Comparison.{equal, less, at_most, same}
 use Rattle.comparison.specs.Sentences.{ComparisonsMean, OverIsFalse, SameMeans}
 use Rattle.value.proofs.Laws.Range.{over-out, settled-in, settled-out, both-in, left_out, right-out}
 use Rattle.comparison.proofs.Laws.{equal-out, unequal-out, less-out, at-most-out, greater-out, at-least-out, unequal-not, greater-less, at-least-at-most, equal-eq, equal-refl, less-lt, at-most-le, same-settled, same_refl, same-sym, same_out, same-eq}

@@ -4,8 +4,7 @@ ghost use Rattle.label_bytes.specs.Labels.{labels_among};
 ghost use Rattle.label_bytes.specs.Words.{words_of};
 
 // By the product's test.
-#[unsafe(no_mangle)]
-pub extern "C" fn labels_by_words(words: &[u32]) -> u32
+pub fn labels_by_words(words: &[u32]) -> u32
     ensures { result ≡ labels_among words.now }
 {
     if 8192 < words.len() {
@@ -23,8 +22,7 @@ pub extern "C" fn labels_by_words(words: &[u32]) -> u32
 }
 
 // By the test byte by byte.
-#[unsafe(no_mangle)]
-pub extern "C" fn labels_by_bytes(bytes: &[u8]) -> u32
+pub fn labels_by_bytes(bytes: &[u8]) -> u32
     ensures { result ≡ labels_among (words_of bytes.now) }
 {
     let words = bytes.len() / 4;

@@ -4,16 +4,14 @@ ghost use Rattle.trace_lines.specs.promises.Stages.{stages_at};
 ghost use Rattle.label_bytes.specs.Words.{words_of};
 
 // By the product's sum.
-#[unsafe(no_mangle)]
-pub extern "C" fn stages_by_words(labels: &[u32], rows: usize, columns: usize) -> u32
+pub fn stages_by_words(labels: &[u32], rows: usize, columns: usize) -> u32
     ensures { result ≡ stages_at labels.now 0 rows columns }
 {
     trace_lines::stages_left(labels, 0, rows, columns)
 }
 
 // By the first byte of each label.
-#[unsafe(no_mangle)]
-pub extern "C" fn stages_by_bytes(bytes: &[u8], rows: usize, columns: usize) -> u32
+pub fn stages_by_bytes(bytes: &[u8], rows: usize, columns: usize) -> u32
     ensures { result ≡ stages_at (words_of bytes.now) 0 rows columns }
 {
     if !cells::table_within(0, rows, columns, bytes.len() / 4) {

@@ -1,6 +1,6 @@
 -- An aggregate's label is the least that is at least as strict as each member's after discharge. Assumes nothing.
 use Prim.Native.Nat.{ℕ}
-use mathlib.Core.Path.{◌≡◌, ap}
+use mathlib.Core.Path.{◌≡◌, sym, ap, subst}
 use mathlib.Core.List.{List, [], ◌∷◌, map}
 use lib.Seq.{get_or_at}
 use Rattle.label_composition.specs.Composition.{composed}
@@ -10,7 +10,7 @@ use Rattle.label_laws.proofs.OrderProof.{reflexive, transitive, clear-below, com
 use Rattle.plan.specs.Group.{group_size, composed_after}
 use Rattle.plan.specs.Keep.{kept_count, kept_cells}
 use Rattle.plan.specs.Numbers.{aggregate_code}
-use Rattle.plan.specs.Sense.Labels.{aggregate_label, AggregateAsStrict, AggregateNoStricter}
+use Rattle.plan.specs.Sense.Labels.{member_label, aggregate_label, AggregateAsStrict, AggregateNoStricter}
 use Rattle.plan.specs.Table.{Cell, Row, blank, cell_at, Each}
 use Rattle.plan.specs.declared.Aggregate.{Aggregate}
 use Rattle.plan.proofs.SenseKeep.{kept-length}
@@ -48,7 +48,8 @@ module _ (keys columns : ℕ) (aggregate : Aggregate) (column : ℕ) where
 pub aggregate-as-strict : AggregateAsStrict
 aggregate-as-strict keys columns aggregate column [] = tt
 aggregate-as-strict keys columns aggregate column (first ∷ rest) =
-    rw (label_is keys columns aggregate column first rest) (above-each (aggregate_code aggregate) (group_size (first ∷ rest)) column 0 (first ∷ rest))
+    subst (λ (label : ℕ). Each (λ row. AsStrict (member_label keys columns aggregate column (first ∷ rest) row) label) (first ∷ rest))
+      (sym (label_is keys columns aggregate column first rest)) (above-each (aggregate_code aggregate) (group_size (first ∷ rest)) column 0 (first ∷ rest))
 
 pub aggregate-no-stricter : AggregateNoStricter
 aggregate-no-stricter keys columns aggregate column [] label p = clear-below label

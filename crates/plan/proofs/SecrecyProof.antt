@@ -133,7 +133,7 @@ module _ (plan : List Step) where
       let made = make-alike next (λ test f. mine test (or_left (test next) (any_step test later) f)) p q t ss rs s e in
       ending-both (too_many next (make next p ss)) (too_many next (make next q rs)) step _ _ (same-limit next _ _ made) (λ _.
       ap₂ behind (same_line next _ _ made)
-      (same_from _ _ (after-alike next p q t ss rs s) (suc step) _ _ (more made (both-drop (takes next) s)) later (λ test f. mine test (or_right (test next) (any_step test later) f)))))
+      (same_from (supply_after next ss p) (supply_after next rs q) (after-alike next p q t ss rs s) (suc step) _ _ (more made (both-drop (takes next) s)) later (λ test f. mine test (or_right (test next) (any_step test later) f)))))
 
 pub secrecy : Secrecy
 unfolding evaluate

@@ -19,7 +19,7 @@ abbrev pub back : ℤ → ℤ
 back z = to_z w64 (of_z w64 z)
 
 pub back_is : (z : ℤ) → mag z < 2 ^ 63 → back z ≡ z
-back_is z h = to_z-of_z (sfits_of h)
+back_is z h = to_z-of_z {w = w64} (sfits_of h)
 
 -- what a callee answered, as the machine reads it
 pub answered : {r z : ℤ} → mag r < 2 ^ 63 → r ≡ z → back r ≡ z

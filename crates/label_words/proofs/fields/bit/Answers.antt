@@ -1,5 +1,4 @@
 -- `label_words::fields::bit` meets its contract. Assumes nothing.
-use borrow.Author.Rules.{rules}
 use Rattle.label_words.proofs.fields.bit.Goals as goal
 
 pub returns : goal.returns

@@ -6,7 +6,6 @@ use native.Mathlib.Omega.{arith}
 use lib.Bits.{and_mask}
 use lib.Dec.{lit<}
 use lib.Pow.{shl_exact, pow_pos}
-use borrow.Author.Rules.{rules}
 use Rattle.label_words.specs.Word.{field_at}
 use Rattle.label_words.proofs.fields.field.Goals as goal
 

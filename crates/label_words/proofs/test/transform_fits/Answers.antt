@@ -1,6 +1,5 @@
 -- `label_words::test::transform_fits` meets its contract. Assumes nothing.
 use native.Mathlib.Omega.{arith}
-use borrow.Author.Rules.{rules}
 use Rattle.label_words.proofs.Masks.{transform-by-mask}
 use Rattle.label_words.proofs.Words.{field_lt}
 use Rattle.label_words.proofs.test.transform_fits.Goals as goal

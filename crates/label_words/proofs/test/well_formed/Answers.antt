@@ -1,5 +1,4 @@
 -- `label_words::test::well_formed` meets its contract. Assumes nothing.
-use borrow.Author.Rules.{rules}
 use Rattle.label_words.specs.WellFormed.{well_formed}
 use Rattle.label_words.proofs.test.well_formed.Goals as goal
 

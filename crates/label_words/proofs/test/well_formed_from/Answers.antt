@@ -1,5 +1,4 @@
 -- `label_words::test::well_formed_from` meets its contract. Assumes nothing.
-use borrow.Author.Rules.{rules}
 use borrow.Author.Tests.{lt-ltb}
 use Rattle.label_words.specs.WellFormed.{well_formed_from}
 use Rattle.label_words.proofs.Masks.{reserved-by-mask}

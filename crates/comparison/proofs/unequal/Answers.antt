@@ -1,0 +1,12 @@
+-- `comparison::unequal` meets its contract.
+-- Assumes nothing.
+use Rattle.value.specs.Range.{both_in_range}
+use Rattle.comparison.specs.Comparison.{unequal}
+use Rattle.value.proofs.Machine.{said₂, eqb-bits}
+use Rattle.comparison.proofs.unequal.Goals as goal
+
+pub returns : goal.returns
+unfolding unequal
+returns c =
+    let f = c.ranges in
+    rw (said₂ both_in_range f.a f.b c.both_in_range.ensures, eqb-bits _ _ f.a f.b)

@@ -1,0 +1,13 @@
+-- `little_endian::two` meets its contract. Assumes nothing.
+use Rattle.little_endian.proofs.Numbers.{joined, number-one, past_end}
+use Rattle.little_endian.proofs.two.Goals as goal
+
+pub returns-then-at-bytes : goal.returns-then-at-bytes
+returns-then-at-bytes c =
+    let a = c.args in
+    joined a.bytes.now a.at 1 1
+    (number-one a.bytes.now a.at c.byte.ensures)
+    (number-one _ _ c.byte-then-at-bytes.ensures)
+
+pub returns-else-at-bytes : goal.returns-else-at-bytes
+returns-else-at-bytes c = past_end c.args.bytes.now c.args.at _ c.if-at-bytes.false
