@@ -5,7 +5,8 @@ use mathlib.Core.Bool.{◌||◌}
 use mathlib.Core.List.{List, map}
 use lib.IntN.{ℤ}
 use lib.ListN.{get_or, drop}
-use Rattle.label_discharge.specs.Discharge.{after_t, after_n}
+use Rattle.label_composition.specs.Composition.{composed}
+use Rattle.label_discharge.specs.Discharge.{after_t, after_a, after_n}
 use Rattle.label_laws.proofs.Laws.{compose-well-formed, after-T-well-formed, after-A-well-formed, after-N-well-formed}
 use Rattle.label_laws.proofs.OrderProof.{composed-monotone, discharge-monotone}
 use Rattle.plan.specs.Apply.{transform_value, applied_row, applied}
@@ -53,7 +54,7 @@ composed-after : (aggregate : Aggregate) (sheets : ℕ) {a b : ℕ} → Stricter
     → StricterLabels (composed_after (aggregate_code aggregate) sheets a xs) (composed_after (aggregate_code aggregate) sheets b ys)
 composed-after aggregate sheets l none = l
 composed-after aggregate sheets {a} {b} l (more {x} {y} m p) =
-    composed-after aggregate sheets record {
+    composed-after aggregate sheets {a = composed a (after_a x (aggregate_code aggregate) sheets)} {b = composed b (after_a y (aggregate_code aggregate) sheets)} record {
       well-formed = compose-well-formed a _ l.well-formed (after-A-well-formed x _ sheets m.well-formed);
       strict = composed-monotone a _ b _ l.strict ((discharge-monotone x y m.strict).1 _ sheets (aggregate-code-lt aggregate));
     } p
