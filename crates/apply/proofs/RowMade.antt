@@ -74,5 +74,5 @@ module _ (w : Work) (from columns column : ℕ) (transform : Transform) (p : fro
       → Put to (applied_row column transform (row_from columns (cells_in w) from)).cells w
       (work (set (moved from to columns w.values) (to + columns) value) (set (moved from to columns w.labels) (to + columns) label))
   row-made to value label g h vr lr ev el =
-      row.row_made w from columns p q to value label (new_cell transform (cell_at column here) here) g h vr lr
+      row.row-made w from columns p q to value label (new_cell transform (cell_at column here) here) g h vr lr
       (ap₂ cell (value_made transform f ∙ sym ev) (ap (λ (l : ℕ). after_t l (transform_code transform) (digits_taken transform)) (row.label-in w from columns p q column k) ∙ sym el))

@@ -24,6 +24,7 @@ module _ (offset : ℕ) where
   among-append (x ∷ xs) ys (inr a) = elim (among-append xs ys a) [ inl b ↦ inl (inr b) | inr b ↦ inr b ]
 
   among-left : (xs ys : List ℕ) → Among offset xs → Among offset (xs ++ ys)
+  among-left [] ys x' = elim x' [ ]
   among-left (x ∷ xs) ys (inl e) = inl e
   among-left (x ∷ xs) ys (inr a) = inr (among-left xs ys a)
 
@@ -80,6 +81,7 @@ two-stays bytes (one ∷ ones) place h e = two-stays (set bytes one 2) ones plac
     go (no f) = get_or-set_other bytes one place 2 0 f ∙ e
 
 pub byte-raised : (bytes ones : List ℕ) (place : ℕ) → place < length bytes → Among place ones → byte_at (raised_at bytes ones) place ≡ 2
+byte-raised bytes [] place h x'' = elim x'' [ ]
 byte-raised bytes (one ∷ ones) place h (inl e) =
     two-stays (set bytes one 2) ones place (rw (length-set bytes one 2) h) (rw (← e) (get_or-set_same bytes place 2 0 h))
 byte-raised bytes (one ∷ ones) place h (inr a) = byte-raised (set bytes one 2) ones place (rw (length-set bytes one 2) h) a

@@ -16,7 +16,7 @@ use Rattle.plan.specs.Keep.{kept_count, kept_cells, kept_row, kept}
 use Rattle.plan.specs.Masks.{in_mask}
 use Rattle.plan.specs.Steps.{check, make, too_many}
 use Rattle.plan.specs.Supply.{Supply}
-use Rattle.plan.specs.Table.{Cell, Row, Table, cell_at, flat}
+use Rattle.plan.specs.Table.{Cell, Row, cell_at, flat}
 use Rattle.plan.specs.Widths.{enough_tables, made_columns}
 use Rattle.plan.specs.declared.Step.TheVariants.{Keep}
 use Rattle.keep.specs.promises.Keeping.{RowsKept}

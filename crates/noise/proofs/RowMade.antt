@@ -42,5 +42,5 @@ module _ (w : Work) (from columns column : ℕ) (draw : ℤ) (p : from + columns
       → Put to (noisy_row column (row_from columns (cells_in w) from) draw).cells w
       (work (set (moved from to columns w.values) (to + columns) value) (set (moved from to columns w.labels) (to + columns) label))
   row-made to value label g h vr lr ev el =
-      row.row_made w from columns p q to value label (noisy_cell (cell_at column (row_from columns (cells_in w) from)) draw) g h vr lr
+      row.row-made w from columns p q to value label (noisy_cell (cell_at column (row_from columns (cells_in w) from)) draw) g h vr lr
       (ap₂ cell (ap (λ (v : ℤ). noisy v draw) (row.value_in w from columns p q column k) ∙ sym ev) (ap after_n (row.label-in w from columns p q column k) ∙ sym el))

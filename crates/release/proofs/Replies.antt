@@ -16,7 +16,7 @@ use Rattle.cells.specs.promises.Work.{Work}
 use Rattle.plan.specs.Verdict.{fine, refused}
 use Rattle.release.specs.declared.ReleaseAnswer.{ReleaseAnswer}
 use Rattle.release.specs.declared.ReleaseAnswer.TheVariants.{StageLeft, Over, DoesNotFit}
-use Rattle.release.specs.promises.Release.{release_says, after_fine, room_reply, release_reply, Releases}
+use Rattle.release.specs.promises.Release.{after_fine, room_reply, release_reply, Releases}
 use Rattle.table_values.specs.promises.Over.{first_over_at}
 
 module _ (w : Work) (output : List ℤ) (text : List ℕ) (rows columns : ℕ) where

@@ -2,7 +2,7 @@
 use Prim.Native.Nat.{ℕ, ◌+◌, ◌*◌, ◌≤◌, ◌<◌}
 use mathlib.Core.Path.{◌≡◌, sym, ap, ap₂, ◌∙◌}
 use mathlib.Core.Bool.{Bool, true, cond, and-eq-true_iff}
-use mathlib.Core.List.{List, [], ◌∷◌, ◌++◌, map, map-append}
+use mathlib.Core.List.{List, ◌++◌, map, map-append}
 use native.Mathlib.Nat.{mul-le-mul}
 use native.Mathlib.Omega.{arith}
 use lib.Dec.{ltb}
@@ -21,7 +21,7 @@ use Rattle.memory.specs.promises.Stack.{Ready, slot, mark_slot, mark_part, stack
 use Rattle.memory.specs.promises.Steps.{verdict, fits, fits_in, Done}
 use Rattle.plan.specs.Steps.{check, make, too_many}
 use Rattle.plan.specs.Supply.{Supply}
-use Rattle.plan.specs.Table.{Row, Table, rows_of, flat, Each}
+use Rattle.plan.specs.Table.{Row, Table, rows_of, flat}
 use Rattle.plan.specs.Union.{united}
 use Rattle.plan.specs.Verdict.{refuse_if}
 use Rattle.plan.specs.Widths.{enough_tables, columns_exist, made_columns}

@@ -1,12 +1,11 @@
 -- What APPLY asks beyond what every step asks: an operation that exists, and labels that are labels. The label library answers then.
-use Rattle.std.specs.Prelude.{ℕ, Bool, ◌&&◌, List}
+use Rattle.std.specs.Prelude.{ℕ, Bool, ◌&&◌}
 use Rattle.cells.specs.promises.Work.{Memory}
 use Rattle.operations.specs.promises.Operations.{operation_fits}
 use Rattle.live_tables.specs.declared.Stack.{Stack}
 use Rattle.memory.specs.promises.Stack.{top_formed}
 use Rattle.memory.specs.promises.Steps.{fits_in}
 use Rattle.plan.specs.Supply.{Supply}
-use Rattle.plan.specs.Table.{Table}
 use Rattle.plan.specs.declared.Step.TheVariants.{Apply}
 use Rattle.plan.specs.declared.Transform.{Transform}
 

@@ -1,0 +1,83 @@
+-- `filter::filtering::filter_rows` meets its contract. Assumes nothing.
+use mathlib.Core.Path.{◌≡◌}
+use native.Mathlib.Omega.{arith}
+use Rattle.cells.specs.promises.Work.{work, memory_of}
+use Rattle.cells.proofs.CellLaws.{values_moved, labels-moved}
+use Rattle.cells.proofs.Written.{as_long}
+use Rattle.filter.proofs.FilterLoop.{Stand, places, mark-places, values-reach, in-values, in-labels, passed, failed, filter-begins, filter-ends}
+use Rattle.filter.proofs.filtering.filter_rows.Goals as goal
+use Rattle.filter.proofs.filtering.filter_rows.Goals.{Start, else-passes, then-passes}
+
+-- the table stands within memory
+stand : (c : Start) → let a = c.args in Stand a.top (memory_of a.values.now a.labels.now a.marks.now)
+stand c = record { cells = c.requires.inside.0; marks = c.requires.inside.1 }
+
+pub loop-row-init : goal.loop-row-init
+loop-row-init c = filter-begins (stand (goal.at.loop-row-init c).Start)
+
+pub passes-requires : goal.passes-requires
+passes-requires c =
+    let reach = values-reach (stand (goal.at.passes-requires c).Start) c.loop-row.invariant c.loop-row-test.true in
+    omega (arith, reach, c.requires.column_lt_columns.0)
+
+pub overflow_add-marks : goal.overflow_add-marks
+overflow_add-marks c = omega (arith, mark-places (stand (goal.at.overflow_add-marks c).Start) c.loop-row.invariant c.loop-row-test.true)
+
+pub offset_bounds-marks-top : goal.offset_bounds-marks-top
+offset_bounds-marks-top c = omega (arith, mark-places (stand (goal.at.offset_bounds-marks-top c).Start) c.loop-row.invariant c.loop-row-test.true)
+
+pub bounds-marks-top : goal.bounds-marks-top
+bounds-marks-top c = omega (arith, mark-places (stand (goal.at.bounds-marks-top c).Start) c.loop-row.invariant c.loop-row-test.true)
+
+pub overflow_add-marks-then-passes : goal.overflow_add-marks-then-passes
+overflow_add-marks-then-passes c = omega (arith, mark-places (stand (goal.at.overflow_add-marks-then-passes c).Start) c.loop-row.invariant c.loop-row-test.true)
+
+pub offset_bounds-marks-top-then-passes : goal.offset_bounds-marks-top-then-passes
+offset_bounds-marks-top-then-passes c = omega (arith, mark-places (stand (goal.at.offset_bounds-marks-top-then-passes c).Start) c.loop-row.invariant c.loop-row-test.true)
+
+pub bounds-marks-top-then-passes : goal.bounds-marks-top-then-passes
+bounds-marks-top-then-passes c = omega (arith, mark-places (stand (goal.at.bounds-marks-top-then-passes c).Start) c.loop-row.invariant c.loop-row-test.true)
+
+pub overflow_add-to : goal.overflow_add-to
+overflow_add-to c = omega (arith, places (stand (goal.at.overflow_add-to c).Start) c.loop-row.invariant c.loop-row-test.true)
+
+pub overflow_add-kept : goal.overflow_add-kept
+overflow_add-kept c = omega (arith, places (stand (goal.at.overflow_add-kept c).Start) c.loop-row.invariant c.loop-row-test.true)
+
+pub overflow_add-from : goal.overflow_add-from
+overflow_add-from c = omega (arith, places (stand (goal.at.overflow_add-from c).Start) c.loop-row.invariant c.loop-row-test.true)
+
+pub overflow_add-row : goal.overflow_add-row
+overflow_add-row c = omega (arith, places (stand (goal.at.overflow_add-row c).Start) c.loop-row.invariant c.loop-row-test.true)
+
+pub loop-row-smaller : goal.loop-row-smaller
+loop-row-smaller c = omega (arith, c.loop-row-test.true)
+
+pub loop-row-preserved : goal.loop-row-preserved
+loop-row-preserved c =
+    let a = c.args in
+    let i = stand (goal.at.loop-row-preserved c).Start in
+    let h = c.loop-row-test.true in
+    let w = work c.loop-row.values c.loop-row.labels in
+    let answer = c.passes.ensures in
+    elim c.if-passes.branch [
+      | then-passes m ↦ let moves = m.move_cells.ensures in
+          let v = values_moved w (in-values i c.loop-row.invariant h) (in-labels i c.loop-row.invariant h) moves.value moves.values_after moves.labels_after in
+          let k = labels-moved w (in-values i c.loop-row.invariant h) (in-labels i c.loop-row.invariant h) moves.value moves.values_after moves.labels_after in
+          rw (m.values-is, m.labels-is, m.marks-is, m.kept-is, m.to-is, v, k) (passed a.column a.comparison a.operand i c.loop-row.invariant h c.requires.column_lt_columns.0 c.requires.column_lt_columns.1 answer m.if-passes.true)
+      | else-passes m ↦ rw (m.values-is, m.labels-is, m.marks-is, m.kept-is, m.to-is) (failed a.column a.comparison a.operand i c.loop-row.invariant h c.requires.column_lt_columns.0 c.requires.column_lt_columns.1 answer m.if-passes.false)
+    ]
+
+pub shape_of-values : goal.shape_of-values
+shape_of-values c = c.loop-row.invariant.same.as-many-values
+
+pub shape_of-labels : goal.shape_of-labels
+shape_of-labels c = c.loop-row.invariant.same.as-many-labels
+
+pub shape_of-marks : goal.shape_of-marks
+shape_of-marks c = as_long c.loop-row.invariant.marks
+
+pub returns : goal.returns
+returns c =
+    let e : c.loop-row.row ≡ c.args.top.rows = omega (arith, c.loop-row.invariant.row-le, c.loop-row-test.false) in
+    filter-ends (stand (goal.at.returns c).Start) e c.loop-row.invariant

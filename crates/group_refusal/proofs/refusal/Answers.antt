@@ -1,0 +1,50 @@
+-- `group_refusal::refusal` meets its contract: 31, then 32. Assumes nothing.
+use mathlib.Core.Path.{◌≡◌, sym, ap, ◌∙◌}
+use mathlib.Core.Bool.{true}
+use native.Mathlib.Nat.{zero-add}
+use Rattle.cells.specs.promises.Labelled.{column_formed_at}
+use Rattle.cells.specs.promises.Search.{says, place_says}
+use Rattle.memory.specs.declared.Refusal.TheVariants.{NotClear}
+use Rattle.memory.specs.promises.Stack.{labels_in}
+use Rattle.plan.specs.Group.{check_group}
+use Rattle.plan.specs.Masks.{in_mask}
+use Rattle.plan.specs.Verdict.{refused, not_clear}
+use Rattle.memory.proofs.Finish.{never-unfit, refusal-stands, goes_on}
+use Rattle.memory.proofs.FormedTables.{formed-table}
+use Rattle.group_refusal.proofs.refusal.Goals as goal
+use Rattle.group_refusal.proofs.refusal.Goals.{After-not_clear, Else-not-column_formed}
+
+-- the labels were tested
+fits : (c : Else-not-column_formed) → let a = c.args in column_formed_at a.labels.now a.table.at a.table.rows a.table.columns a.column ≡ true
+fits c = sym c.column_formed.ensures ∙ c.if-not-column_formed.false
+
+-- the labels were tested
+fits-at-After-not_clear : (c : After-not_clear) → let a = c.args in column_formed_at a.labels.now a.table.at a.table.rows a.table.columns a.column ≡ true
+fits-at-After-not_clear c = sym c.column_formed.ensures ∙ c.if-not-column_formed.false
+
+keys : (c : After-not_clear) → let a = c.args in place_says 31 0 c.not_clear.result ≡ says (not_clear (in_mask a.keys) 31 0 (labels_in a.labels.now a.table))
+keys c =
+    let a = c.args in
+    c.not_clear.ensures 31 0 ∙ rw (formed-table a.labels.now a.table a.column (fits-at-After-not_clear c)).is
+
+pub returns-then-not-column_formed : goal.returns-then-not-column_formed
+returns-then-not-column_formed c = rw (sym c.column_formed.ensures ∙ c.if-not-column_formed.true)
+
+pub forbidden-requires : goal.forbidden-requires
+forbidden-requires c = fits (goal.at.forbidden-requires c).Else-not-column_formed
+
+pub returns-in-At : goal.returns-in-At
+unfolding check_group
+returns-in-At c =
+    let row = c.in-At.row in
+    let column = c.in-At.key in
+    rw (fits (goal.at.returns-in-At c).Else-not-column_formed)
+    (refusal-stands (NotClear row column) _ (ap (λ n. says (refused 31 n column)) (sym (zero-add row)) ∙ sym (ap (place_says 31 0) c.in-At.is) ∙ keys (goal.at.returns-in-At c).After-not_clear))
+
+pub returns-in-DoesNotFit : goal.returns-in-DoesNotFit
+returns-in-DoesNotFit c = absurd (never-unfit (sym (ap (place_says 31 0) c.in-DoesNotFit.is) ∙ keys (goal.at.returns-in-DoesNotFit c).After-not_clear))
+
+pub returns-in-Nowhere : goal.returns-in-Nowhere
+unfolding check_group
+returns-in-Nowhere c =
+    rw (fits (goal.at.returns-in-Nowhere c).Else-not-column_formed) (c.forbidden.ensures ∙ ap says (sym (goes_on _ (sym (ap (place_says 31 0) c.in-Nowhere.is) ∙ keys (goal.at.returns-in-Nowhere c).After-not_clear))))

@@ -1,0 +1,12 @@
+-- `pairs::rows::join_row` meets its contract. The rows of the first right rows are made. Assumes nothing.
+use Prim.Native.Nat.{◌+◌, ◌-◌, ◌*◌, ◌≤◌}
+use mathlib.Core.Path.{◌≡◌}
+use Rattle.cells.specs.promises.Work.{work}
+use Rattle.pairs.proofs.Turns.{Paired}
+use Rattle.pairs.proofs.rows.join_row.Given as goal
+
+abbrev pub invariant-loop-i : goal.invariant-loop-i
+invariant-loop-i l = (l.i ≤ l.right.rows) × (l.count ≤ 256) × (l.other ≡ l.right.at + l.i * l.right.columns) × (l.at + l.left.columns ≤ 6144) × Paired l.left l.right (work l.initial.values l.initial.labels) l.made l.at l.i l.count (work l.values l.labels)
+
+abbrev pub decreases-loop-i : goal.decreases-loop-i
+decreases-loop-i l = l.right.rows - l.i

@@ -1,0 +1,71 @@
+-- `union::uniting::union` meets its contract. Assumes nothing.
+use Prim.Native.Nat.{◌≤◌}
+use mathlib.Core.Path.{◌≡◌, sym, ◌∙◌}
+use mathlib.Core.Bool.{true}
+use mathlib.Core.List.{[]}
+use native.Mathlib.Omega.{arith}
+use lib.ListN.{length}
+use Rattle.cells.specs.promises.Work.{memory_of, mark_room}
+use Rattle.memory.specs.promises.Stack.{widths_to}
+use Rattle.memory.specs.promises.Steps.{fits}
+use Rattle.plan.specs.Widths.{columns_exist, made_columns}
+use Rattle.plan.specs.declared.Step.TheVariants.{Union}
+use Rattle.cells.proofs.CellLaws.{values_moved, labels-moved}
+use Rattle.memory.proofs.Finish.{unfit-done, columns-fit, columns-misfit, marks-too, marks-short, not-even}
+use Rattle.union.proofs.UnionMeaning.{UnionFits, union-parts, union-many, in-values, in-labels, marks-moved, union_left}
+use Rattle.union.proofs.uniting.union.Goals as goal
+use Rattle.union.proofs.uniting.union.Goals.{After-live_table-right}
+
+fitted : (c : After-live_table-right) → let a = c.args in (fits Union [] (length a.values.now) (length a.labels.now) a.stack ≡ true) × (c.in-Columns.columns ≡ made_columns Union [] (widths_to a.stack a.stack.depth))
+fitted c = columns-fit _ _ (sym c.fit.ensures ∙ c.in-Columns.is)
+
+parts : (c : After-live_table-right) → let a = c.args in UnionFits (length a.values.now) (length a.labels.now) a.stack c.live_table-left.result c.live_table-right.result c.in-Columns.columns
+parts c = union-parts [] _ _ c.args.stack _ _ _ c.live_table-left.ensures c.live_table-right.ensures (fitted c).0 (fitted c).1
+
+-- the marks are enough
+room : (c : After-live_table-right) → mark_room ≤ length c.args.marks.now
+room c = c.if-marks-lt-MARK_ROOM.false
+
+pub returns-then-marks-lt-MARK_ROOM : goal.returns-then-marks-lt-MARK_ROOM
+returns-then-marks-lt-MARK_ROOM c = λ supply. unfit-done Union supply _ _ (marks-short _ c.args.marks.now c.if-marks-lt-MARK_ROOM.true)
+
+pub returns-in_default : goal.returns-in_default
+unfolding columns_exist made_columns
+returns-in_default c =
+    λ supply. unfit-done Union supply _ _
+    (not-even c.args.marks.now (columns-misfit _ _ (sym c.fit.ensures ∙ c.in_default.is)))
+
+pub overflow_add-left : goal.overflow_add-left
+overflow_add-left c = let f = parts (goal.at.overflow_add-left c).After-live_table-right in omega (arith, f.few-left, f.few-right)
+
+pub returns-then-left-right-gt256 : goal.returns-then-left-right-gt256
+unfolding columns_exist made_columns
+returns-then-left-right-gt256 c =
+    let a = c.args in
+    λ supply. union-many supply (memory_of a.values.now a.labels.now a.marks.now) a.stack (room (goal.at.returns-then-left-right-gt256 c).After-live_table-right) (marks-too a.marks.now (room (goal.at.returns-then-left-right-gt256 c).After-live_table-right) (fitted (goal.at.returns-then-left-right-gt256 c).After-live_table-right).0) (parts (goal.at.returns-then-left-right-gt256 c).After-live_table-right) c.if-left-right-gt256.true
+
+pub overflow_mul-left : goal.overflow_mul-left
+overflow_mul-left c = omega (arith, (parts (goal.at.overflow_mul-left c).After-live_table-right).cells-left)
+
+pub overflow_add-left-2 : goal.overflow_add-left-2
+overflow_add-left-2 c = let f = parts (goal.at.overflow_add-left-2 c).After-live_table-right in omega (arith, f.cells-left, f.left_at, f.lower.low)
+
+pub overflow_mul-right : goal.overflow_mul-right
+overflow_mul-right c = omega (arith, (parts (goal.at.overflow_mul-right c).After-live_table-right).cells_right)
+
+pub overflow_add-left-3 : goal.overflow_add-left-3
+overflow_add-left-3 c = let f = parts (goal.at.overflow_add-left-3 c).After-live_table-right in omega (arith, f.few-left, f.left-marks, f.lower.low)
+
+pub returns : goal.returns
+unfolding columns_exist made_columns
+returns c =
+    let a = c.args in
+    let w = memory_of a.values.now a.labels.now a.marks.now in
+    let m = c.move_cells.ensures in
+    let n = c.move_marks.ensures in
+    λ supply.
+    let t = marks-too a.marks.now (room (goal.at.returns c).After-live_table-right) (fitted (goal.at.returns c).After-live_table-right).0 in
+    let v = in-values supply w a.stack (room (goal.at.returns c).After-live_table-right) t (parts (goal.at.returns c).After-live_table-right) in
+    let k = in-labels supply w a.stack (room (goal.at.returns c).After-live_table-right) t (parts (goal.at.returns c).After-live_table-right) in
+    rw c.with_table.ensures (union_left supply w a.stack (room (goal.at.returns c).After-live_table-right) t (parts (goal.at.returns c).After-live_table-right) c.if-left-right-gt256.false
+    (values_moved w.work v k m.value m.values_after m.labels_after) (labels-moved w.work v k m.value m.values_after m.labels_after) (marks-moved supply w a.stack (room (goal.at.returns c).After-live_table-right) t (parts (goal.at.returns c).After-live_table-right) n.value n.marks_after))
