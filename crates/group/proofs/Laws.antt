@@ -19,6 +19,8 @@ use Rattle.plan.specs.Table.{Row, Table, cell_at, Each}
 use Rattle.plan.specs.declared.Aggregate.{Aggregate}
 use Rattle.plan.specs.declared.Step.TheVariants.{Group}
 use Rattle.cells.proofs.LabelledTables.{cell-formed, kept-formed, passing-formed}
+use Rattle.label_composition.specs.Composition.{composed}
+use Rattle.label_discharge.specs.Discharge.{after_a}
 use Rattle.group.proofs.Labels.{composed-formed}
 use Rattle.label_laws.proofs.Laws.{zero-well-formed}
 use Rattle.memory.proofs.TopLabels.{top-formed}
@@ -35,7 +37,7 @@ composition-formed : (code rows label column : ℕ) (group : List Row) → well_
     → well_formed (composed_after code rows label (map (λ cell. cell.label) (map (cell_at column) group))) ≡ true
 composition-formed code rows label column [] w e = w
 composition-formed code rows label column (row ∷ group) w e =
-    composition-formed code rows _ column group (composed-formed label (cell_at column row).label code rows w (cell-formed column row e.0)) e.1
+    composition-formed code rows (composed label (after_a (cell_at column row).label code rows)) column group (composed-formed label (cell_at column row).label code rows w (cell-formed column row e.0)) e.1
 
 row-formed : (keys columns : ℕ) (aggregate : Aggregate) (column : ℕ) (group : List Row) → Each LabelledRow group → LabelledRow (group_row keys columns aggregate column group)
 row-formed keys columns aggregate column [] e = tt

@@ -2,9 +2,8 @@
 use Prim.Native.Nat.{ℕ, zero, suc, ◌+◌, ◌-◌, ◌≤◌, ◌<◌}
 use mathlib.Core.Path.{◌≡◌, refl, sym, ap, ap₂, ◌∙◌}
 use mathlib.Core.Bool.{Bool, true, false, cond, ◌||◌}
-use mathlib.Core.List.{List, [], ◌∷◌, ◌++◌, map}
+use mathlib.Core.List.{List, [], ◌∷◌, map}
 use native.Mathlib.Nat.{zero-add, add-zero, add_assoc}
-use native.Mathlib.Numerals.{add-one}
 use native.Mathlib.Omega.{arith}
 use lib.Dec.{eqb}
 use lib.ListN.{length, get_or, take, drop, set, replicate, length-append, length-take, length-map, length-set, length-replicate, get_or-replicate, drop_of_length-le}
@@ -12,7 +11,7 @@ use lib.Seq.{drop-cons, get_or-take, get_or-drop, get_or-set_same, get_or-set_ot
 use borrow.Author.Tests.{eq-eqb, ne_eqb, eqb-true, eqb-false, le-leb}
 use Rattle.chains.specs.promises.Chains.{FirstLed, Chain, Onward}
 use Rattle.group.specs.promises.Members.{chosen, GroupSheets}
-use Rattle.mark_numbers.specs.promises.Numbers.{first_same, first_of, firsts_from, numbers_of, numbers_at}
+use Rattle.mark_numbers.specs.promises.Numbers.{first_same, first_of, firsts_from, numbers_at}
 use Rattle.memory.specs.promises.Stack.{mark_part}
 use Rattle.plan.specs.Group.{any_mark, distinct_after, distinct}
 use Rattle.plan.specs.Table.{Each}

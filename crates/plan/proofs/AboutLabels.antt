@@ -49,7 +49,7 @@ pub aggregate-as-strict : AggregateAsStrict
 aggregate-as-strict keys columns aggregate column [] = tt
 aggregate-as-strict keys columns aggregate column (first ∷ rest) =
     subst (λ (label : ℕ). Each (λ row. AsStrict (member_label keys columns aggregate column (first ∷ rest) row) label) (first ∷ rest))
-      (sym (label_is keys columns aggregate column first rest)) (above-each (aggregate_code aggregate) (group_size (first ∷ rest)) column 0 (first ∷ rest))
+    (sym (label_is keys columns aggregate column first rest)) (above-each (aggregate_code aggregate) (group_size (first ∷ rest)) column 0 (first ∷ rest))
 
 pub aggregate-no-stricter : AggregateNoStricter
 aggregate-no-stricter keys columns aggregate column [] label p = clear-below label
