@@ -115,9 +115,6 @@ taken-at-After-draws_used-used c =
 pub slice_bounds-take_step-count : goal.slice_bounds-take_step-count
 slice_bounds-take_step-count c = (going (goal.at.slice_bounds-take_step-count c).In-loop-index).drawn
 
--- LEFT: part-take-step-start : tie.Need-slice-bounds-take-step-start invariant-loop decreases-loop
--- LEFT: part-take-step-start c = (going c.before.before.before).drawn
-
 -- what the steps have kept when one is refused
 kept_by : (k : After-take_step-stepped) → let a = k.args in AllKept (memory_of a.values.now a.labels.now a.marks.now) (memory_of k.take_step-stepped.new.values k.take_step-stepped.new.labels k.take_step-stepped.new.marks)
 kept_by k = all_then (going-at-After-take_step-stepped k).kept (kept-so _ k.loop-index.used (steady-at-After-take_step-stepped k) (known k) (taken k))
