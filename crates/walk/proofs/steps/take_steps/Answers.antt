@@ -132,12 +132,9 @@ pub returns-in-Refused : goal.returns-in-Refused
 returns-in-Refused c =
     go-refused c.requires.0 c.requires.1 (going (goal.at.returns-in-Refused c).In-loop-index) (inside (goal.at.returns-in-Refused c).In-loop-index) _ (says_so _ c.loop-index.used (steady (goal.at.returns-in-Refused c).In-loop-index) (known (goal.at.returns-in-Refused c).After-take_step-stepped) (taken (goal.at.returns-in-Refused c).After-take_step-stepped)) (kept-so _ c.loop-index.used (steady (goal.at.returns-in-Refused c).In-loop-index) (known (goal.at.returns-in-Refused c).After-take_step-stepped) (taken (goal.at.returns-in-Refused c).After-take_step-stepped)) _ c.in-Refused.is
 
-pub never-requires : goal.never-requires
-never-requires c =
-    go-fits c.requires.0 c.requires.1 (going (goal.at.never-requires c).In-loop-index) (inside (goal.at.never-requires c).In-loop-index) _ (says_so _ c.loop-index.used (steady (goal.at.never-requires c).In-loop-index) (known (goal.at.never-requires c).After-take_step-stepped) (taken (goal.at.never-requires c).After-take_step-stepped)) (kept-so _ c.loop-index.used (steady (goal.at.never-requires c).In-loop-index) (known (goal.at.never-requires c).After-take_step-stepped) (taken (goal.at.never-requires c).After-take_step-stepped)) c.in-DoesNotFit.is
-
-pub returns-in-DoesNotFit : goal.returns-in-DoesNotFit
-returns-in-DoesNotFit c = absurd c.never.ensures
+pub unreachable-requires : goal.unreachable-requires
+unreachable-requires c =
+    go-fits c.requires.0 c.requires.1 (going (goal.at.unreachable-requires c).In-loop-index) (inside (goal.at.unreachable-requires c).In-loop-index) _ (says_so _ c.loop-index.used (steady (goal.at.unreachable-requires c).In-loop-index) (known (goal.at.unreachable-requires c).After-take_step-stepped) (taken (goal.at.unreachable-requires c).After-take_step-stepped)) (kept-so _ c.loop-index.used (steady (goal.at.unreachable-requires c).In-loop-index) (known (goal.at.unreachable-requires c).After-take_step-stepped) (taken (goal.at.unreachable-requires c).After-take_step-stepped)) c.in-DoesNotFit.is
 
 used-is : (c : After-draws_used-used) → c.draws_used-used.result ≡ draws_used (step_number (given_to-at-After-draws_used-used c) c.loop-index.index) (length (top (stack_in (memory_of c.loop-index.values c.loop-index.labels c.loop-index.marks) c.loop-index.stack)).rows)
 used-is c =
