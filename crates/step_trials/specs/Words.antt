@@ -1,11 +1,15 @@
 -- The words of a text, and the numbers that they are. Bytes are in ASCII.
 use Rattle.std.specs.Prelude.{ℕ, zero, suc, ◌+◌, ◌-◌, ◌*◌, ◌^◌, Bool, true, false, cond, ◌&&◌, ◌||◌, List, [], ◌∷◌, length, take, drop, ◌==◌, nat_le, nat_lt}
-use Rattle.bytes.specs.Bytes.{index_of}
 
 -- how often a byte stands in a text
 unfoldable pub count_of : ℕ → List ℕ → ℕ
 count_of byte [] = 0
 count_of byte (x ∷ rest) = cond (x == byte) (suc (count_of byte rest)) (count_of byte rest)
+
+-- where a byte first stands in a text; where it does not, the text's length
+unfoldable pub index_of : ℕ → List ℕ → ℕ
+index_of byte [] = 0
+index_of byte (x ∷ rest) = cond (x == byte) 0 (suc (index_of byte rest))
 
 -- a part of a text, which the byte parts: the first, or one behind it; past the last, nothing
 unfoldable pub part_of : ℕ → ℕ → List ℕ → List ℕ

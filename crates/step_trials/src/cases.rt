@@ -3,11 +3,10 @@ ghost use Rattle.std.specs.Prelude.{◌≡◌};
 ghost use Rattle.step_trials.specs.Words.{number_of, part_of};
 
 use crate::printing::unreadable;
-use crate::reading::{NONE, bits, count, number, part, place, small};
+use crate::reading::{NONE, bits, count, number, part, place, same, small};
 use crate::tables::{decode, run};
-use check::same;
 use plan::{Aggregate, Comparison, Operand, Step, Transform};
-use std::num::wrapping_add_usize;
+use std::io;
 use value::pattern::signed;
 
 // A step; a NOISE of a column, with how many draws and these, at most four; or, by the number of its shape, a container, stages left, first
@@ -20,7 +19,7 @@ pub enum Case {
 }
 
 // Reads a case, and runs it. In a shape a `#` stands for a number, a `*` for a word that is read later.
-pub fn read(line: &[u8], container: &[u8]) {
+pub fn read<R: Print>(rt: &R, line: &[u8], container: &[u8]) -> io::Result<()> {
     let head = part(line, b':', 0);
     let shapes =
         b"UNION\nJOIN # = #\nKEEP #\nFILTER # * column #\nAPPLY # * column #\nFILTER # * *\nAPPLY # cut #\nAPPLY # * *\nGROUP # * #\nSCAN # of # bytes\ncontainer *\nstages left\nfirst OVER\nline #\noutput of # from #\nclear#\nNOISE # with *\n";
@@ -28,53 +27,55 @@ pub fn read(line: &[u8], container: &[u8]) {
     let a = field(head, 1);
     let b = field(head, 3);
     match shape {
-        0 => step(line, Step::Union),
-        1 => step(line, Step::Join { left: a, right: b }),
+        0 => step(rt, line, Step::Union),
+        1 => step(rt, line, Step::Join { left: a, right: b }),
         2 => step(
+            rt,
             line,
             Step::Keep {
                 mask: small(a as u64),
             },
         ),
-        3 => filter(line, head, a, Operand::Column(field(head, 4))),
-        4 => apply(line, head, a, Operand::Column(field(head, 4))),
-        5 | 7 => constant(line, head, shape, bits(part(head, b' ', 3))),
-        6 => transform(line, a, Transform::Cut(small(b as u64))),
-        8 => group(line, head, small(a as u64), b),
+        3 => filter(rt, line, head, a, Operand::Column(field(head, 4))),
+        4 => apply(rt, line, head, a, Operand::Column(field(head, 4))),
+        5 | 7 => constant(rt, line, head, shape, bits(part(head, b' ', 3))),
+        6 => transform(rt, line, a, Transform::Cut(small(b as u64))),
+        8 => group(rt, line, head, small(a as u64), b),
         9 => decode(
+            rt,
             line,
             part(container, b' ', 1),
             b,
             Case::Step(Step::Scan { table: a }),
         ),
         10 => decode(
+            rt,
             line,
             part(line, b' ', 1),
             part(line, b' ', 1).len() / 2,
             Case::Other(shape, 0, 0),
         ),
-        16 => noise(line, a, part(head, b' ', 3)),
-        _ => other(line, head, shape),
+        16 => noise(rt, line, a, part(head, b' ', 3)),
+        _ => other(rt, line, head, shape),
     }
 }
 
 // NOISE with the draws that a word has, parted by commas, or with none.
-fn noise(line: &[u8], column: usize, word: &[u8]) {
+fn noise<R: Print>(rt: &R, line: &[u8], column: usize, word: &[u8]) -> io::Result<()> {
     let draws = if same(word, b"none") {
         0
     } else {
-        wrapping_add_usize(count(word, b','), 1)
+        count(word, b',').wrapping_add(1)
     };
     let a = draw(word, draws, 0);
     let b = draw(word, draws, 1);
     let c = draw(word, draws, 2);
     let d = draw(word, draws, 3);
     if (4 < draws) | (a == NONE) | (b == NONE) | (c == NONE) | (d == NONE) {
-        unreadable(line);
-        return;
+        return unreadable(rt, line);
     }
     let case = Case::Noise(column, draws, signed(a), signed(b), signed(c), signed(d));
-    run(line, line, 0, case);
+    run(rt, line, line, 0, case)
 }
 
 // The bits of one of so many draws, and 0 past the last.
@@ -87,17 +88,18 @@ fn draw(word: &[u8], draws: usize, index: usize) -> u64 {
 }
 
 // A case that is no step. It has two numbers at most.
-fn other(line: &[u8], head: &[u8], shape: usize) {
+fn other<R: Print>(rt: &R, line: &[u8], head: &[u8], shape: usize) -> io::Result<()> {
     match shape {
-        11 | 12 | 15 => run(line, line, 0, Case::Other(shape, 0, 0)),
-        13 => run(line, line, 0, Case::Other(shape, field(head, 1), 0)),
+        11 | 12 | 15 => run(rt, line, line, 0, Case::Other(shape, 0, 0)),
+        13 => run(rt, line, line, 0, Case::Other(shape, field(head, 1), 0)),
         14 => run(
+            rt,
             line,
             line,
             0,
             Case::Other(shape, field(head, 2), field(head, 4)),
         ),
-        _ => unreadable(line),
+        _ => unreadable(rt, line),
     }
 }
 
@@ -108,85 +110,110 @@ fn field(head: &[u8], index: usize) -> usize
     number(10, part(head, b' ', index)) as usize
 }
 
-fn step(line: &[u8], step: Step) {
-    run(line, line, 0, Case::Step(step));
+fn step<R: Print>(rt: &R, line: &[u8], step: Step) -> io::Result<()> {
+    run(rt, line, line, 0, Case::Step(step))
 }
 
 // FILTER or APPLY with a constant.
-fn constant(line: &[u8], head: &[u8], shape: usize, bits: u64) {
+fn constant<R: Print>(rt: &R, line: &[u8], head: &[u8], shape: usize, bits: u64) -> io::Result<()> {
     if bits == NONE {
-        unreadable(line);
-        return;
+        return unreadable(rt, line);
     }
     let operand = Operand::Constant(signed(bits));
     if shape == 5 {
-        filter(line, head, field(head, 1), operand);
+        filter(rt, line, head, field(head, 1), operand)
     } else {
-        apply(line, head, field(head, 1), operand);
+        apply(rt, line, head, field(head, 1), operand)
     }
 }
 
-fn filter(line: &[u8], head: &[u8], column: usize, operand: Operand) {
+fn filter<R: Print>(
+    rt: &R,
+    line: &[u8],
+    head: &[u8],
+    column: usize,
+    operand: Operand,
+) -> io::Result<()> {
     match place(b' ', part(head, b' ', 2), b"= != < <= > >= ") {
-        0 => compare(line, column, Comparison::Equal, operand),
-        1 => compare(line, column, Comparison::Unequal, operand),
-        2 => compare(line, column, Comparison::Less, operand),
-        3 => compare(line, column, Comparison::AtMost, operand),
-        4 => compare(line, column, Comparison::Greater, operand),
-        5 => compare(line, column, Comparison::AtLeast, operand),
-        _ => unreadable(line),
+        0 => compare(rt, line, column, Comparison::Equal, operand),
+        1 => compare(rt, line, column, Comparison::Unequal, operand),
+        2 => compare(rt, line, column, Comparison::Less, operand),
+        3 => compare(rt, line, column, Comparison::AtMost, operand),
+        4 => compare(rt, line, column, Comparison::Greater, operand),
+        5 => compare(rt, line, column, Comparison::AtLeast, operand),
+        _ => unreadable(rt, line),
     }
 }
 
-fn compare(line: &[u8], column: usize, comparison: Comparison, operand: Operand) {
+fn compare<R: Print>(
+    rt: &R,
+    line: &[u8],
+    column: usize,
+    comparison: Comparison,
+    operand: Operand,
+) -> io::Result<()> {
     step(
+        rt,
         line,
         Step::Filter {
             column,
             comparison,
             operand,
         },
-    );
+    )
 }
 
-fn apply(line: &[u8], head: &[u8], column: usize, operand: Operand) {
+fn apply<R: Print>(
+    rt: &R,
+    line: &[u8],
+    head: &[u8],
+    column: usize,
+    operand: Operand,
+) -> io::Result<()> {
     match place(b' ', part(head, b' ', 2), b"add sub band ") {
-        0 => transform(line, column, Transform::Add(operand)),
-        1 => transform(line, column, Transform::Sub(operand)),
-        2 => band(line, column, operand),
-        _ => unreadable(line),
+        0 => transform(rt, line, column, Transform::Add(operand)),
+        1 => transform(rt, line, column, Transform::Sub(operand)),
+        2 => band(rt, line, column, operand),
+        _ => unreadable(rt, line),
     }
 }
 
-fn band(line: &[u8], column: usize, operand: Operand) {
+fn band<R: Print>(rt: &R, line: &[u8], column: usize, operand: Operand) -> io::Result<()> {
     match operand {
-        Operand::Constant(width) => transform(line, column, Transform::Band(width)),
-        Operand::Column(_) => unreadable(line),
+        Operand::Constant(width) => transform(rt, line, column, Transform::Band(width)),
+        Operand::Column(_) => unreadable(rt, line),
     }
 }
 
-fn transform(line: &[u8], column: usize, transform: Transform) {
-    step(line, Step::Apply { column, transform });
+fn transform<R: Print>(rt: &R, line: &[u8], column: usize, transform: Transform) -> io::Result<()> {
+    step(rt, line, Step::Apply { column, transform })
 }
 
-fn group(line: &[u8], head: &[u8], keys: u32, column: usize) {
+fn group<R: Print>(rt: &R, line: &[u8], head: &[u8], keys: u32, column: usize) -> io::Result<()> {
     match place(b' ', part(head, b' ', 2), b"count sum min max avg ") {
-        0 => aggregate(line, keys, Aggregate::Count, column),
-        1 => aggregate(line, keys, Aggregate::Sum, column),
-        2 => aggregate(line, keys, Aggregate::Min, column),
-        3 => aggregate(line, keys, Aggregate::Max, column),
-        4 => aggregate(line, keys, Aggregate::Avg, column),
-        _ => unreadable(line),
+        0 => aggregate(rt, line, keys, Aggregate::Count, column),
+        1 => aggregate(rt, line, keys, Aggregate::Sum, column),
+        2 => aggregate(rt, line, keys, Aggregate::Min, column),
+        3 => aggregate(rt, line, keys, Aggregate::Max, column),
+        4 => aggregate(rt, line, keys, Aggregate::Avg, column),
+        _ => unreadable(rt, line),
     }
 }
 
-fn aggregate(line: &[u8], keys: u32, aggregate: Aggregate, column: usize) {
+fn aggregate<R: Print>(
+    rt: &R,
+    line: &[u8],
+    keys: u32,
+    aggregate: Aggregate,
+    column: usize,
+) -> io::Result<()> {
     step(
+        rt,
         line,
         Step::Group {
             keys,
             aggregate,
             column,
         },
-    );
+    )
 }

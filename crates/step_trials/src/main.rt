@@ -11,38 +11,31 @@ mod printing;
 mod reading;
 mod tables;
 
-use bytes::scan::find;
-use check::same;
-use reading::part;
+use crate::reading::{part, same};
+use std::io::{self, Read};
 
-fn main() {
-    let mut input = io::large_buffer();
-    let length = io::read_full(libc::STDIN_FILENO, &mut input);
-    lines(&input[..length]);
+fn main(rt: HostRuntime) -> io::Result<()> {
+    let mut input = Vec::new(rt.alloc());
+    rt.reader().read_to_end(&mut input)?;
+    lines(&rt, input.as_slice())
 }
 
 // Runs the lines, one after the other, each with the last container before it.
-fn lines(input: &[u8]) {
-    let mut start = 0;
-    let mut stop = 0;
-    let mut from = 0;
-    while from < input.len() {
-        let end = find(input, from, input.len(), b'\n');
-        if same(part(&input[from..end], b' ', 0), b"container") {
-            start = from;
-            stop = end;
+fn lines<R: Print>(rt: &R, input: &[u8]) -> io::Result<()> {
+    let mut container = &input[..0];
+    for text in input.split(|byte| *byte == b'\n') {
+        if same(part(text, b' ', 0), b"container") {
+            container = text;
         }
-        line(&input[from..end], &input[start..stop]);
-        from = end + 1;
+        line(rt, text, container)?;
     }
+    Ok(())
 }
 
 // A line of the input: nothing, or a case.
-fn line(line: &[u8], container: &[u8]) {
-    if line.len() == 0 {
-        return;
+fn line<R: Print>(rt: &R, line: &[u8], container: &[u8]) -> io::Result<()> {
+    if line.is_empty() || line[0] == b'#' {
+        return Ok(());
     }
-    if line[0] != b'#' {
-        cases::read(line, container);
-    }
+    cases::read(rt, line, container)
 }

@@ -1,298 +1,262 @@
 // A case and what its answer is made of, from the values that stand for them.
 use crate::reading::part;
 use cells::Place;
-use libc::STDOUT_FILENO;
 use memory::{Refusal, Stack, StepAnswer, Stepped};
 use plan::{Aggregate, Comparison, Operand, Step, Transform};
-use std::num::wrapping_add_usize;
+use std::io;
 use value::range::OVER;
 
 // A line that can't be read.
-pub fn unreadable(line: &[u8]) {
-    text(b"cannot read: ");
-    text(line);
-    text(b"\n");
+pub fn unreadable<R: Print>(rt: &R, line: &[u8]) -> io::Result<()> {
+    print!(rt; "cannot read: ")?;
+    rt.write_all(line)?;
+    println!(rt)
 }
 
 // A step with its fields; SCAN has so many bytes of a container.
-pub fn print_step(step: Step, bytes: usize) {
+pub fn print_step<R: Print>(rt: &R, step: Step, bytes: usize) -> io::Result<()> {
     let names = b" SCAN UNION JOIN FILTER KEEP APPLY GROUP NOISE";
-    text(part(names, b' ', kinds::kind_of(step) as usize));
+    rt.write_all(part(names, b' ', kinds::kind_of(step) as usize))?;
     match step {
-        Step::Scan { table } => {
-            field(table);
-            text(b" of");
-            field(bytes);
-            text(b" bytes");
-        }
-        Step::Union => {}
-        Step::Join { left, right } => {
-            field(left);
-            text(b" =");
-            field(right);
-        }
+        Step::Scan { table } => print!(rt; " {table} of {bytes} bytes"),
+        Step::Union => Ok(()),
+        Step::Join { left, right } => print!(rt; " {left} = {right}"),
         Step::Filter {
             column,
             comparison,
             operand,
         } => {
-            field(column);
-            sign(comparison);
-            second(operand);
+            print!(rt; " {column}")?;
+            sign(rt, comparison)?;
+            second(rt, operand)
         }
-        Step::Keep { mask } => field(mask as usize),
+        Step::Keep { mask } => print!(rt; " {mask}"),
         Step::Apply { column, transform } => {
-            field(column);
-            operation(transform);
+            print!(rt; " {column}")?;
+            operation(rt, transform)
         }
         Step::Group {
             keys,
             aggregate,
             column,
         } => {
-            field(keys as usize);
-            summary(aggregate);
-            field(column);
+            print!(rt; " {keys}")?;
+            summary(rt, aggregate)?;
+            print!(rt; " {column}")
         }
-        Step::Noise { column } => field(column),
+        Step::Noise { column } => print!(rt; " {column}"),
     }
 }
 
-fn sign(comparison: Comparison) {
-    let place = match comparison {
-        Comparison::Equal => 0,
-        Comparison::Unequal => 1,
-        Comparison::Less => 2,
-        Comparison::AtMost => 3,
-        Comparison::Greater => 4,
-        Comparison::AtLeast => 5,
-    };
-    text(b" ");
-    text(part(b"= != < <= > >=", b' ', place));
+fn sign<R: Print>(rt: &R, comparison: Comparison) -> io::Result<()> {
+    match comparison {
+        Comparison::Equal => print!(rt; " ="),
+        Comparison::Unequal => print!(rt; " !="),
+        Comparison::Less => print!(rt; " <"),
+        Comparison::AtMost => print!(rt; " <="),
+        Comparison::Greater => print!(rt; " >"),
+        Comparison::AtLeast => print!(rt; " >="),
+    }
 }
 
-fn summary(aggregate: Aggregate) {
-    text(b" ");
-    text(part(
-        b"count sum min max avg",
-        b' ',
-        operations::aggregate_code(aggregate) as usize,
-    ));
+fn summary<R: Print>(rt: &R, aggregate: Aggregate) -> io::Result<()> {
+    let code = operations::aggregate_code(aggregate) as usize;
+    print!(rt; " ")?;
+    rt.write_all(part(b"count sum min max avg", b' ', code))
 }
 
-fn operation(transform: Transform) {
-    text(b" ");
-    text(part(
-        b"add sub cut band",
-        b' ',
-        operations::transform_code(transform) as usize,
-    ));
+fn operation<R: Print>(rt: &R, transform: Transform) -> io::Result<()> {
+    let code = operations::transform_code(transform) as usize;
+    print!(rt; " ")?;
+    rt.write_all(part(b"add sub cut band", b' ', code))?;
     match transform {
-        Transform::Add(operand) => second(operand),
-        Transform::Sub(operand) => second(operand),
-        Transform::Cut(digits) => field(digits as usize),
-        Transform::Band(width) => value(width),
+        Transform::Add(operand) => second(rt, operand),
+        Transform::Sub(operand) => second(rt, operand),
+        Transform::Cut(digits) => print!(rt; " {digits}"),
+        Transform::Band(width) => value(rt, width),
     }
 }
 
-fn second(operand: Operand) {
+fn second<R: Print>(rt: &R, operand: Operand) -> io::Result<()> {
     match operand {
-        Operand::Constant(constant) => value(constant),
-        Operand::Column(column) => {
-            text(b" column");
-            field(column);
-        }
+        Operand::Constant(constant) => value(rt, constant),
+        Operand::Column(column) => print!(rt; " column {column}"),
     }
 }
 
 // The draws of a NOISE.
-pub fn with(draws: &[i64]) {
-    text(b" with");
-    if draws.len() == 0 {
-        text(b" none");
-        return;
+pub fn with<R: Print>(rt: &R, draws: &[i64]) -> io::Result<()> {
+    print!(rt; " with")?;
+    if draws.is_empty() {
+        return print!(rt; " none");
     }
-    let mut i = 0;
-    while i < draws.len() {
-        draw(i, draws[i]);
-        i += 1;
+    for (index, number) in draws.iter().enumerate() {
+        draw(rt, index, *number)?;
     }
+    Ok(())
 }
 
-fn draw(index: usize, draw: i64) {
+fn draw<R: Print>(rt: &R, index: usize, draw: i64) -> io::Result<()> {
     if index == 0 {
-        text(b" ");
+        print!(rt; " {draw}")
     } else {
-        text(b",");
+        print!(rt; ",{draw}")
     }
-    number(draw);
 }
 
 // What a case is given: the values, labels and marks that are lent, where they are too few, and its tables.
-pub fn given(values: &[i64], labels: &[u32], marks: &[u64], stack: Stack) {
-    text(b":");
+pub fn given<R: Print>(
+    rt: &R,
+    values: &[i64],
+    labels: &[u32],
+    marks: &[u64],
+    stack: Stack,
+) -> io::Result<()> {
+    print!(rt; ":")?;
     if values.len() < 8192 {
-        field(values.len());
-        text(b" values,");
+        print!(rt; " {} values,", values.len())?;
     }
     if labels.len() < 8192 {
-        field(labels.len());
-        text(b" labels,");
+        print!(rt; " {} labels,", labels.len())?;
     }
     if marks.len() < 1024 {
-        field(marks.len());
-        text(b" marks,");
+        print!(rt; " {} marks,", marks.len())?;
     }
-    live(values, labels, stack);
-    let depth = stack.depth;
-    match depth {
-        0 => text(b" no tables gives"),
-        1..=3 => text(b" gives"),
-        _ => text(b"; one more gives"),
+    live(rt, values, labels, stack)?;
+    match stack.depth {
+        0 => print!(rt; " no tables gives"),
+        1..=3 => print!(rt; " gives"),
+        _ => print!(rt; "; one more gives"),
     }
 }
 
 // The tables after a step, or its refusal.
-pub fn after(values: &[i64], labels: &[u32], stepped: Stepped) {
-    let answer = stepped.answer;
-    match answer {
-        StepAnswer::Made => live(values, labels, stepped.stack),
-        StepAnswer::Refused(refusal) => refused(refusal),
-        StepAnswer::DoesNotFit => text(b" does not fit"),
+pub fn after<R: Print>(rt: &R, values: &[i64], labels: &[u32], stepped: Stepped) -> io::Result<()> {
+    match stepped.answer {
+        StepAnswer::Made => live(rt, values, labels, stepped.stack),
+        StepAnswer::Refused(refusal) => refused(rt, refusal),
+        StepAnswer::DoesNotFit => print!(rt; " does not fit"),
     }
 }
 
-fn refused(refusal: Refusal) {
+fn refused<R: Print>(rt: &R, refusal: Refusal) -> io::Result<()> {
     match refusal {
-        Refusal::NotClear(row, column) => numbered(31, row, column),
-        Refusal::Forbidden(row, column) => numbered(32, row, column),
-        Refusal::OperandNotClear(row, column) => numbered(33, row, column),
-        Refusal::TooMany => numbered(34, 256, 0),
-        Refusal::NoDraw(row, column) => numbered(37, row, column),
+        Refusal::NotClear(row, column) => numbered(rt, 31, row, column),
+        Refusal::Forbidden(row, column) => numbered(rt, 32, row, column),
+        Refusal::OperandNotClear(row, column) => numbered(rt, 33, row, column),
+        Refusal::TooMany => numbered(rt, 34, 256, 0),
+        Refusal::NoDraw(row, column) => numbered(rt, 37, row, column),
     }
 }
 
-fn numbered(number: usize, row: usize, column: usize) {
-    field(number);
-    text(b" at");
-    place_at(row, column);
+fn numbered<R: Print>(rt: &R, number: usize, row: usize, column: usize) -> io::Result<()> {
+    print!(rt; " {number} at")?;
+    place_at(rt, row, column)
 }
 
-fn place_at(row: usize, column: usize) {
-    text(b" row");
-    field(row);
-    text(b" column");
-    field(column);
+fn place_at<R: Print>(rt: &R, row: usize, column: usize) -> io::Result<()> {
+    print!(rt; " row {row} column {column}")
 }
 
 // What a search finds.
-pub fn place(found: Place) {
+pub fn place<R: Print>(rt: &R, found: Place) -> io::Result<()> {
     match found {
-        Place::At(row, column) => place_at(row, column),
-        Place::Nowhere => text(b" nowhere"),
-        Place::DoesNotFit => text(b" does not fit"),
+        Place::At(row, column) => place_at(rt, row, column),
+        Place::Nowhere => print!(rt; " nowhere"),
+        Place::DoesNotFit => print!(rt; " does not fit"),
     }
 }
 
 // The live tables.
-fn live(values: &[i64], labels: &[u32], stack: Stack) {
-    let depth = stack.depth;
-    let rows = stack.rows;
-    let columns = stack.columns;
-    let mut slot = 0;
-    while slot < 3 {
-        if slot < depth {
-            table(values, labels, slot, rows[slot], columns[slot]);
+fn live<R: Print>(rt: &R, values: &[i64], labels: &[u32], stack: Stack) -> io::Result<()> {
+    for slot in 0..3 {
+        if slot < stack.depth {
+            table(
+                rt,
+                values,
+                labels,
+                slot,
+                stack.rows[slot],
+                stack.columns[slot],
+            )?;
         }
-        slot += 1;
     }
+    Ok(())
 }
 
 // A table with its columns; of more than eight rows, which have one column, the first and the last, and how many there are.
-fn table(values: &[i64], labels: &[u32], slot: usize, rows: usize, columns: usize) {
+fn table<R: Print>(
+    rt: &R,
+    values: &[i64],
+    labels: &[u32],
+    slot: usize,
+    rows: usize,
+    columns: usize,
+) -> io::Result<()> {
     let at = slot << 11;
     if 0 < slot {
-        text(b";");
+        print!(rt; ";")?;
     }
-    field(columns);
-    text(b"|");
+    print!(rt; " {columns}|")?;
     if rows <= 8 {
-        row_by_row(values, labels, at, rows, columns);
-        return;
+        return row_by_row(rt, values, labels, at, rows, columns);
     }
-    cells(values, labels, at, 1);
-    text(b" ..");
-    cells(
-        values,
-        labels,
-        std::num::wrapping_sub_usize(wrapping_add_usize(at, rows), 1),
-        1,
-    );
-    text(b" of");
-    field(rows);
-    text(b" rows");
+    cells(rt, values, labels, at, 1)?;
+    print!(rt; " ..")?;
+    cells(rt, values, labels, at.wrapping_add(rows).wrapping_sub(1), 1)?;
+    print!(rt; " of {rows} rows")
 }
 
-fn row_by_row(values: &[i64], labels: &[u32], at: usize, rows: usize, columns: usize) {
+fn row_by_row<R: Print>(
+    rt: &R,
+    values: &[i64],
+    labels: &[u32],
+    at: usize,
+    rows: usize,
+    columns: usize,
+) -> io::Result<()> {
     let mut from = at;
-    let mut row = 0;
-    while row < rows {
+    for row in 0..rows {
         if 0 < row {
-            text(b" /");
+            print!(rt; " /")?;
         }
-        cells(values, labels, from, columns);
-        from = wrapping_add_usize(from, columns);
-        row += 1;
+        cells(rt, values, labels, from, columns)?;
+        from = from.wrapping_add(columns);
     }
+    Ok(())
 }
 
 // So many cells from a place on.
-pub fn cells(values: &[i64], labels: &[u32], at: usize, count: usize) {
-    let mut i = 0;
-    while i < count {
-        cell(values, labels, wrapping_add_usize(at, i));
-        i += 1;
+pub fn cells<R: Print>(
+    rt: &R,
+    values: &[i64],
+    labels: &[u32],
+    at: usize,
+    count: usize,
+) -> io::Result<()> {
+    for i in 0..count {
+        cell(rt, values, labels, at.wrapping_add(i))?;
     }
+    Ok(())
 }
 
-fn cell(values: &[i64], labels: &[u32], at: usize) {
-    if at < values.len() {
-        if at < labels.len() {
-            value(values[at]);
-            label(labels[at]);
-            return;
-        }
+fn cell<R: Print>(rt: &R, values: &[i64], labels: &[u32], at: usize) -> io::Result<()> {
+    if at < values.len() && at < labels.len() {
+        value(rt, values[at])?;
+        return label(rt, labels[at]);
     }
-    text(b" none");
+    print!(rt; " none")
 }
 
-fn label(label: u32) {
-    text(b":");
-    io::print_hex(STDOUT_FILENO, label as u64, 1);
+fn label<R: Print>(rt: &R, label: u32) -> io::Result<()> {
+    print!(rt; ":{label:x}")
 }
 
 // A value, and OVER as a word.
-fn value(value: i64) {
+fn value<R: Print>(rt: &R, value: i64) -> io::Result<()> {
     if value == OVER {
-        text(b" OVER");
-        return;
+        print!(rt; " OVER")
+    } else {
+        print!(rt; " {value}")
     }
-    text(b" ");
-    number(value);
-}
-
-fn number(value: i64) {
-    if value < 0 {
-        text(b"-");
-    }
-    io::print_decimal(STDOUT_FILENO, value::pattern::magnitude(value));
-}
-
-pub fn field(number: usize) {
-    text(b" ");
-    io::print_decimal(STDOUT_FILENO, number as u64);
-}
-
-pub fn text(bytes: &[u8]) {
-    io::write_all(STDOUT_FILENO, bytes);
 }

@@ -1,15 +1,13 @@
 // The words of a text, and the numbers that they are.
-ghost use Rattle.std.specs.Prelude.{◌≡◌, min};
-ghost use Rattle.step_trials.specs.Words.{count_of, part_of, digit_of, with_digit, number_of, bits_of, place_of};
+ghost use Rattle.std.specs.Prelude.{◌≡◌, ◌+◌, ◌≤◌, length, drop, min};
+ghost use Rattle.step_trials.specs.Words.{count_of, index_of, part_of, digit_of, with_digit, number_of, bits_of, place_of};
 ghost use Rattle.step_trials.specs.Words as spec;
-
-use bytes::scan::find;
-use check::same;
 
 // Stands for a word that is no number: numbers are below it.
 pub const NONE: u64 = 0x1_0000_0000_0000;
 
 // How often a byte stands in a text.
+#[tactic(auto, using(crate::proofs::Words::count_next, crate::proofs::Words::count_skip, crate::proofs::Words::nothing_left), unfolding(crate::specs::Words::count_of))]
 pub fn count(text: &[u8], byte: u8) -> usize
     ensures { result ≡ count_of byte text.now }
 {
@@ -24,21 +22,49 @@ pub fn count(text: &[u8], byte: u8) -> usize
     n
 }
 
+// The place of the first such byte in a text, from one place on; where there is none, the text's end.
+#[tactic(auto, using(crate::proofs::Words::index_here, crate::proofs::Words::index_skip, crate::proofs::Words::nothing_left), unfolding(crate::specs::Words::index_of))]
+pub fn find(text: &[u8], from: usize, byte: u8) -> usize
+    requires { from ≤ length text.now }
+    ensures value { result ≡ from + index_of byte (drop from text.now) }
+    ensures lower_bound { from ≤ result }
+    ensures upper_bound { result ≤ length text.now }
+{
+    let mut place = from;
+    while place < text.len() {
+        if text[place] == byte {
+            break;
+        }
+        place += 1;
+    }
+    place
+}
+
+// Whether two texts are the same.
+#[tactic(auto, using(crate::proofs::Words::compared))]
+pub fn same(a: &[u8], b: &[u8]) -> bool
+    ensures { result ≡ spec.same a.now b.now }
+{
+    a == b
+}
+
 // A part of a text that a byte parts; past the last, nothing.
+#[tactic(auto, using(crate::proofs::Words::part_next, crate::proofs::Words::behind, crate::proofs::Words::behind_none), unfolding(crate::specs::Words::part_of))]
 pub fn part(text: &[u8], byte: u8, index: usize) -> &[u8]
     ensures { result.now ≡ part_of byte index text.now }
 {
     let mut from = 0;
     let mut left = index;
     while 0 < left {
-        let end = find(text, from, text.len(), byte);
+        let end = find(text, from, byte);
         from = if end < text.len() { end + 1 } else { end };
         left -= 1;
     }
-    let end = find(text, from, text.len(), byte);
+    let end = find(text, from, byte);
     &text[from..end]
 }
 
+#[tactic(auto, unfolding(crate::specs::Words::digit_of))]
 fn digit(byte: u8) -> u8
     ensures { result ≡ digit_of byte }
 {
@@ -50,6 +76,7 @@ fn digit(byte: u8) -> u8
 }
 
 // A number with one digit more.
+#[tactic(auto, unfolding(crate::specs::Words::with_digit))]
 fn with_digit(base: u8, number: u64, byte: u8) -> u64
     ensures { result ≡ with_digit base number byte }
 {
@@ -65,6 +92,7 @@ fn with_digit(base: u8, number: u64, byte: u8) -> u64
 }
 
 // The number that a word is.
+#[tactic(auto, using(crate::proofs::Words::digits_next, crate::proofs::Words::nothing_left), unfolding(crate::specs::Words::number_of, crate::specs::Words::with_digits))]
 pub fn number(base: u8, word: &[u8]) -> u64
     ensures { result ≡ number_of base word.now }
 {
@@ -92,6 +120,7 @@ pub fn small(number: u64) -> u32
 }
 
 // The 64 bits of the value that a word is.
+#[tactic(auto, unfolding(crate::specs::Words::bits_of))]
 pub fn bits(word: &[u8]) -> u64
     ensures { result ≡ bits_of word.now }
 {
@@ -105,6 +134,7 @@ pub fn bits(word: &[u8]) -> u64
 }
 
 // The bits of a number below zero.
+#[tactic(auto, unfolding(crate::specs::Words::negated))]
 fn negated(number: u64) -> u64
     ensures { result ≡ spec.negated number }
 {
@@ -118,6 +148,7 @@ fn negated(number: u64) -> u64
 }
 
 // Whether a word is as a shape's word says.
+#[tactic(auto, unfolding(crate::specs::Words::word_fits))]
 fn word_fits(word: &[u8], shape: &[u8]) -> bool
     ensures { result ≡ spec.word_fits word.now shape.now }
 {
@@ -131,6 +162,7 @@ fn word_fits(word: &[u8], shape: &[u8]) -> bool
 }
 
 // Whether a text has as many words as a shape, and each fits.
+#[tactic(auto, using(crate::proofs::Words::words_next), unfolding(crate::specs::Words::shaped, crate::specs::Words::words_fit))]
 fn shaped(text: &[u8], shape: &[u8]) -> bool
     ensures { result ≡ spec.shaped text.now shape.now }
 {
@@ -148,6 +180,7 @@ fn shaped(text: &[u8], shape: &[u8]) -> bool
 }
 
 // The first shape that a text has, of those that each have the byte behind it.
+#[tactic(auto, using(crate::proofs::Words::place_next), unfolding(crate::specs::Words::place_of, crate::specs::Words::place_from))]
 pub fn place(byte: u8, text: &[u8], shapes: &[u8]) -> usize
     ensures { result ≡ place_of byte text.now shapes.now }
 {

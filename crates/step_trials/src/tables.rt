@@ -5,39 +5,40 @@ ghost use Rattle.step_trials.specs.Words.{form_of};
 use crate::answers::{Lent, print};
 use crate::cases::Case;
 use crate::printing::unreadable;
-use crate::reading::{NONE, bits, count, number, part, place, small};
-use bytes::scan::find;
+use crate::reading::{NONE, bits, count, find, number, part, place, small};
 use memory::with_table;
-use std::num::wrapping_add_usize;
+use std::io;
 use value::pattern::signed;
 
 // Runs a case with so many bytes of a container, of two digits each.
-pub fn decode(line: &[u8], digits: &[u8], bytes: usize, case: Case) {
+pub fn decode<R: Print>(
+    rt: &R,
+    line: &[u8],
+    digits: &[u8],
+    bytes: usize,
+    case: Case,
+) -> io::Result<()> {
     let mut container = [0; 128];
     if 128 < bytes {
-        unreadable(line);
-        return;
+        return unreadable(rt, line);
     }
-    let mut i = 0;
-    while i < bytes {
+    for i in 0..bytes {
         let from = 2 * i;
         let end = from + 2;
         if digits.len() < end {
-            unreadable(line);
-            return;
+            return unreadable(rt, line);
         }
         let byte = number(16, &digits[from..end]);
         if 255 < byte {
-            unreadable(line);
-            return;
+            return unreadable(rt, line);
         }
         container[i] = byte as u8;
-        i += 1;
     }
-    run(line, &container, bytes, case);
+    run(rt, line, &container, bytes, case)
 }
 
 // What a word between tables is: 0 the columns of a table, 1 a cell, 14 neither of them though it looks so, or what it is by its name.
+#[tactic(auto, unfolding(crate::specs::Words::form_of))]
 fn form(word: &[u8], named: usize) -> usize
     ensures { result ≡ form_of word.now named }
 {
@@ -68,7 +69,13 @@ fn either(first: bool, a: usize, b: usize) -> usize
 }
 
 // Puts the tables into work memory, the first into slot 0, and answers the case. A cell stands in all places behind it too.
-pub fn run(line: &[u8], container: &[u8], bytes: usize, case: Case) {
+pub fn run<R: Print>(
+    rt: &R,
+    line: &[u8],
+    container: &[u8],
+    bytes: usize,
+    case: Case,
+) -> io::Result<()> {
     let mut values = [0; 8200];
     let mut labels = [0; 8200];
     let mut stack = memory::no_tables();
@@ -76,9 +83,9 @@ pub fn run(line: &[u8], container: &[u8], bytes: usize, case: Case) {
     let mut v = 8200;
     let mut l = 8200;
     let mut m = 1032;
-    let mut from = wrapping_add_usize(part(line, b':', 0).len(), 2);
+    let mut from = part(line, b':', 0).len().wrapping_add(2);
     while from < line.len() {
-        let end = find(line, from, line.len(), b' ');
+        let end = find(line, from, b' ');
         let word = part(&line[from..end], b';', 0);
         from = end + 1;
         let top = memory::live_table(stack, 0);
@@ -98,13 +105,11 @@ pub fn run(line: &[u8], container: &[u8], bytes: usize, case: Case) {
             1 => {
                 let value = signed(bits(part(word, b':', 0)));
                 let label = small(number(16, part(word, b':', 1)));
-                let mut i = wrapping_add_usize(top.at, cells);
-                while i < 8200 {
+                for i in top.at.wrapping_add(cells)..8200 {
                     values[i] = value;
                     labels[i] = label;
-                    i += 1;
                 }
-                cells = wrapping_add_usize(cells, 1);
+                cells = cells.wrapping_add(1);
                 if 0 < columns {
                     stack = with_table(stack, top.slot, columns, cells / columns);
                 }
@@ -117,8 +122,7 @@ pub fn run(line: &[u8], container: &[u8], bytes: usize, case: Case) {
             }
             3..=13 => {}
             _ => {
-                unreadable(line);
-                return;
+                return unreadable(rt, line);
             }
         }
     }
@@ -128,5 +132,5 @@ pub fn run(line: &[u8], container: &[u8], bytes: usize, case: Case) {
         marks: m,
         bytes,
     };
-    print(&mut values, &mut labels, container, lent, stack, case);
+    print(rt, &mut values, &mut labels, container, lent, stack, case)
 }
