@@ -1,6 +1,6 @@
 /* The release monitor, for C and C++.
  *
- * Links with libcilunovay.a (`rt staticlib cilunovay`), for x86-64 Linux.
+ * Links with libcilunovay.a, which `tools/library DIRECTORY` makes, for x86-64 Linux.
  *
  * cilunovay_run, cilunovay_check and cilunovay_convert are proved to do what stands
  * above them below, for every container, all overlays and every length, and to return.

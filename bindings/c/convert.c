@@ -1,6 +1,6 @@
 /* The conversion of stored containers as a command for scripts, in C.
  *
- *     gcc -O2 -I include -o convert bindings/c/convert.c target/staticlib/libcilunovay.a
+ *     gcc -O2 -I include -o convert bindings/c/convert.c out/libcilunovay.a
  *     convert < CONTAINER > NEW 2> OFFSETS
  *     convert FILE > NEW 2> OFFSETS
  *

@@ -1,6 +1,6 @@
 /* The release monitor as a command for scripts, in C.
  *
- *     gcc -O2 -I include -o release bindings/c/release.c target/staticlib/libcilunovay.a
+ *     gcc -O2 -I include -o release bindings/c/release.c out/libcilunovay.a
  *     release < CONTAINER
  *     release FILE..
  *     release --csv < CONTAINER > tally.csv

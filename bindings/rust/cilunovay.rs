@@ -1,11 +1,11 @@
 //! The release monitor for Rust, with nothing unsafe for its callers.
 //!
 //! Take this file in as a module, and link `libcilunovay.a`, which
-//! `rt staticlib cilunovay` writes for x86-64 Linux. It needs Rust 1.82, and is of
+//! `tools/library out` writes for x86-64 Linux. It needs Rust 1.82, and is of
 //! edition 2021 or 2024. By rustc alone:
 //!
 //! ```text
-//! rustc --edition 2024 -L native=target/staticlib PROGRAM.rs
+//! rustc --edition 2024 -L native=out PROGRAM.rs
 //! ```
 //!
 //! In a Cargo package, copy this file into `src`, the archive into `lib` and

@@ -1,7 +1,7 @@
 //! The conversion of stored containers as a command for scripts, in Rust.
 //!
 //! ```text
-//! rustc -O --edition 2024 -L native=target/staticlib -o convert bindings/rust/convert.rs
+//! rustc -O --edition 2024 -L native=out -o convert bindings/rust/convert.rs
 //! convert < CONTAINER > NEW 2> OFFSETS
 //! convert FILE > NEW 2> OFFSETS
 //! ```

@@ -1,7 +1,7 @@
 //! The release monitor as a command for scripts, in Rust.
 //!
 //! ```text
-//! rustc -O --edition 2024 -L native=target/staticlib -o release bindings/rust/release.rs
+//! rustc -O --edition 2024 -L native=out -o release bindings/rust/release.rs
 //! release < CONTAINER
 //! release FILE..
 //! release --csv < CONTAINER > tally.csv

@@ -2,7 +2,7 @@
 //! converted of a third.
 //!
 //! ```text
-//! rustc --edition 2021 --test -L native=target/staticlib -o wrapper tests/bindings/wrapper.rs
+//! rustc --edition 2021 --test -L native=out -o wrapper tests/bindings/wrapper.rs
 //! CONTAINERS=crates/trials/data OVERLAID=crates/overlay_trials/data CONVERSIONS=crates/convert/data wrapper
 //! ```
 

@@ -6,8 +6,8 @@
 //!         -L native=DIRECTORY -l static=label_bytes
 //!     labels [ROUNDS]              400 if not given
 //!
-//! DIRECTORY has liblabel_bytes.a, which `rt staticlib label_bytes` makes. The
-//! versions byte by byte read the same labels in little-endian bytes.
+//! DIRECTORY has liblabel_bytes.a, which `tools/library DIRECTORY label_bytes`
+//! makes. The versions byte by byte read the same labels in little-endian bytes.
 //!
 //! The answers of both are compared with each other and with the reference
 //! implementation, label by label, and for all labels together: stages in four
