@@ -1,9 +1,11 @@
-// The files that a program's arguments name.
+// What a program reads: its input, and the files that its arguments name.
 #![tactic(auto)]
 
-ghost use Rattle.io.specs.Counts.{IsPrefixLen};
+ghost use Rattle.std.specs.Prelude.{◌≤◌, length, IfOk};
 
-use libc::STDOUT_FILENO;
+use std::fs::Files;
+use std::io::Read;
+use std::{fs, io};
 
 // Whether a file could be opened, and how many bytes were read.
 #[derive(Clone, Copy)]
@@ -13,26 +15,47 @@ pub struct File {
 }
 
 // Reads the file that an argument names into the bytes, and prints the name first where `named`. Which bytes a file has, no contract can say.
-pub fn read_argument(index: usize, named: bool, bytes: &mut [u8]) -> File
-    ensures { IsPrefixLen result.length bytes.new }
+pub fn read_argument<R: Files + Print + Eprint>(
+    rt: &R,
+    names: &[String],
+    index: usize,
+    named: bool,
+    bytes: &mut [u8],
+) -> io::Result<File>
+    ensures { IfOk result (λ file. file.length ≤ length bytes.new) }
 {
-    let mut name = io::buffer();
-    let length = os::arg(index, &mut name);
-    let fd = os::open_read(&name[..length]);
-    if fd < 0 {
-        os::fail(&name[..length]);
-        return File {
-            opened: false,
-            length: 0,
-        };
-    }
+    let name = names.get(index).map_or("", |name| name.as_str());
+    let mut file = match fs::open(rt, name) {
+        Ok(file) => file,
+        Err(error) => {
+            eprintln!(rt; "{name}: {error}")?;
+            return Ok(File {
+                opened: false,
+                length: 0,
+            });
+        }
+    };
     if named {
-        io::write_all(STDOUT_FILENO, &name[..length]);
+        print!(rt; "{name}")?;
     }
-    let read = io::read_full(fd, bytes);
-    libc::close(fd);
-    File {
+    let read = read_full(&mut file, bytes)?;
+    Ok(File {
         opened: true,
         length: read,
+    })
+}
+
+// Reads until the bytes are full or the input ends, and answers how many it read.
+pub fn read_full<R: Read>(reader: &mut R, bytes: &mut [u8]) -> io::Result<usize>
+    ensures { IfOk result (λ read. read ≤ length bytes.new) }
+{
+    let mut read = 0;
+    while read < bytes.len() {
+        let more = reader.read(&mut bytes[read..])?;
+        if more == 0 {
+            break;
+        }
+        read += more;
     }
+    Ok(read)
 }

@@ -4,59 +4,32 @@
 #![tactic(auto)]
 
 use call_numbers::conversion_numbers;
-use libc::{STDERR_FILENO, STDIN_FILENO, STDOUT_FILENO};
+use std::io;
 
 // One byte more than the limit is read, so that a longer container shows.
-fn main() {
+fn main(rt: HostRuntime) -> io::Result<()> {
     let mut bytes = [0u8; 65537];
-    let length = io::read_full(STDIN_FILENO, &mut bytes);
+    let length = arguments::read_full(&mut rt.stdin(), &mut bytes)?;
     let mut new = [0u8; 65537];
     let mut offsets = [0u32; 8192];
     let answer = conversion_numbers(conversion::convert(&bytes[..length], &mut new, &mut offsets));
     if answer[0] != 0 {
-        refused(&answer);
-        return;
+        return refused(&rt, &answer);
     }
-    beginning(&new, length);
-    changed(&offsets, answer[1] as usize);
-}
-
-// So many bytes of the new container.
-fn beginning(new: &[u8], length: usize) {
-    if length <= new.len() {
-        text(STDOUT_FILENO, &new[..length]);
-    }
+    rt.write_all(&new[..length])?;
+    changed(&rt, &offsets, answer[1] as usize)
 }
 
 // The first offsets, one a line.
-fn changed(offsets: &[u32], count: usize) {
-    let mut i = 0;
-    while i < count {
-        changed_at(offsets, i);
-        i += 1;
+fn changed(rt: &impl Eprint, offsets: &[u32], count: usize) -> io::Result<()> {
+    for offset in offsets.iter().take(count) {
+        eprintln!(rt; "{offset}")?;
     }
-}
-
-fn changed_at(offsets: &[u32], i: usize) {
-    if i < offsets.len() {
-        line(offsets[i]);
-    }
-}
-
-fn line(offset: u32) {
-    io::print_decimal(STDERR_FILENO, offset as u64);
-    text(STDERR_FILENO, b"\n");
+    Ok(())
 }
 
 // The line of a refusal: its number and its place.
-fn refused(answer: &[u64; 2]) {
-    text(STDERR_FILENO, b"X ");
-    io::print_decimal(STDERR_FILENO, answer[0]);
-    text(STDERR_FILENO, b" ");
-    io::print_decimal(STDERR_FILENO, answer[1]);
-    text(STDERR_FILENO, b"\n");
-}
-
-fn text(to: i32, bytes: &[u8]) {
-    io::write_all(to, bytes);
+fn refused(rt: &impl Eprint, answer: &[u64; 2]) -> io::Result<()> {
+    let [number, place] = *answer;
+    eprintln!(rt; "X {number} {place}")
 }

@@ -2,12 +2,13 @@
 // nothing there, and the X line to standard error. It lends no draws.
 #![tactic(auto)]
 
-use libc::STDIN_FILENO;
+use std::io;
 
 // One byte more than the limit is read, so that a longer container shows.
-fn main() {
+fn main(rt: HostRuntime) -> io::Result<()> {
     let mut bytes = [0u8; 65537];
-    let length = io::read_full(STDIN_FILENO, &mut bytes);
+    let length = arguments::read_full(&mut rt.stdin(), &mut bytes)?;
     let draws = [0i64; 0];
-    report::export(&bytes[..length], &draws);
+    report::export(&rt, &bytes[..length], &draws)?;
+    Ok(())
 }

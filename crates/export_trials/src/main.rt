@@ -1,47 +1,51 @@
 // Runs each container that the arguments name with several lengths of the slice for the text, and prints what each call answers, and the text.
 #![tactic(auto)]
 
-use libc::STDOUT_FILENO;
+use std::fs::Files;
+use std::{env, io};
 
 // More than the longest text.
 const LONG: usize = 40000;
 
-fn main() {
-    for index in 1..os::arg_count() {
-        trial(index);
+fn main(rt: HostRuntime) -> io::Result<()> {
+    let names: Vec<String> = env::args(&rt)?.collect(rt.alloc())?;
+    for index in 1..names.len() {
+        trial(&rt, &names, index)?;
     }
+    Ok(())
 }
 
 // One byte more than the limit is read, so that a longer container shows.
-fn trial(index: usize) {
+fn trial<R: Files + Print + Eprint>(rt: &R, names: &[String], index: usize) -> io::Result<()> {
     let mut bytes = [0u8; 65537];
-    let file = arguments::read_argument(index, true, &mut bytes);
+    let file = arguments::read_argument(rt, names, index, true, &mut bytes)?;
     let length = file.length;
     if !file.opened {
-        return;
+        return Ok(());
     }
-    print(b"\n");
-    rooms(&bytes[..length]);
+    println!(rt)?;
+    rooms(rt, &bytes[..length])
 }
 
 // Lends no byte, one too few, as many as the text has, and more; and prints the text.
-fn rooms(container: &[u8]) {
+fn rooms(rt: &impl Print, container: &[u8]) -> io::Result<()> {
     let mut text = [0u8; LONG];
     let needed = text_bytes(run(container, &mut text));
-    lend(container, 0);
+    lend(rt, container, 0)?;
     if 0 < needed {
-        lend(container, needed - 1);
-        lend(container, needed);
+        lend(rt, container, needed - 1)?;
+        lend(rt, container, needed)?;
     }
-    lend(container, LONG);
-    beginning(&text, needed);
+    lend(rt, container, LONG)?;
+    beginning(rt, &text, needed)
 }
 
 // So many bytes of a text.
-fn beginning(bytes: &[u8], length: usize) {
+fn beginning(rt: &impl Print, bytes: &[u8], length: usize) -> io::Result<()> {
     if length <= bytes.len() {
-        print(&bytes[..length]);
+        rt.write_all(&bytes[..length])?;
     }
+    Ok(())
 }
 
 // How many bytes the text of a release has, by its answer; 0 where there is none.
@@ -54,19 +58,16 @@ fn text_bytes(answer: [u64; 4]) -> usize {
 }
 
 // The line of a call with so many bytes for the text: how many, and the four numbers that it answers.
-fn lend(container: &[u8], room: usize) {
+fn lend(rt: &impl Print, container: &[u8], room: usize) -> io::Result<()> {
     let mut text = [0u8; LONG];
     if LONG < room {
-        return;
+        return Ok(());
     }
     let answer = run(container, &mut text[..room]);
-    print(b"T");
-    decimal(room as u64);
-    decimal(answer[0]);
-    decimal(answer[1]);
-    decimal(answer[2]);
-    decimal(answer[3]);
-    print(b"\n");
+    println!(rt;
+        "T {room} {} {} {} {}",
+        answer[0], answer[1], answer[2], answer[3]
+    )
 }
 
 fn run(container: &[u8], text: &mut [u8]) -> [u64; 4] {
@@ -94,13 +95,4 @@ fn run(container: &[u8], text: &mut [u8]) -> [u64; 4] {
         &mut answer,
     );
     answer
-}
-
-fn decimal(number: u64) {
-    print(b" ");
-    io::print_decimal(STDOUT_FILENO, number);
-}
-
-fn print(bytes: &[u8]) {
-    io::write_all(STDOUT_FILENO, bytes);
 }

@@ -4,42 +4,50 @@
 
 mod draws;
 
-use libc::STDOUT_FILENO;
-use std::num::wrapping_add_usize;
+use std::fs::Files;
+use std::{env, io};
 
 // More draws than a trial has.
 const MOST: usize = 2048;
 
-fn main() {
-    for index in 1..os::arg_count() {
+fn main(rt: HostRuntime) -> io::Result<()> {
+    let names: Vec<String> = env::args(&rt)?.collect(rt.alloc())?;
+    for index in 1..names.len() {
         if index % 2 == 1 {
-            trial(index);
+            trial(&rt, &names, index)?;
         }
     }
+    Ok(())
 }
 
 // One byte more than the limit is read, so that a longer container shows.
-fn trial(index: usize) {
+fn trial<R: Files + Print + Eprint>(rt: &R, names: &[String], index: usize) -> io::Result<()> {
     let mut bytes = [0u8; 65537];
     let mut text = [0u8; 65536];
-    let file = arguments::read_argument(index, true, &mut bytes);
-    let lines = arguments::read_argument(wrapping_add_usize(index, 1), false, &mut text);
+    let file = arguments::read_argument(rt, names, index, true, &mut bytes)?;
+    let lines = arguments::read_argument(rt, names, index.wrapping_add(1), false, &mut text)?;
     if !(file.opened & lines.opened) {
-        return;
+        return Ok(());
     }
-    io::write_all(STDOUT_FILENO, b"\n");
-    run(&bytes[..file.length], &text[..lines.length]);
+    println!(rt)?;
+    run(rt, &bytes[..file.length], &text[..lines.length])
 }
 
-fn run(container: &[u8], text: &[u8]) {
+fn run<R: Print + Eprint>(rt: &R, container: &[u8], text: &[u8]) -> io::Result<()> {
     let mut numbers = [0i64; MOST];
     let count = draws::read(text, &mut numbers);
-    lend(container, &numbers, count);
+    lend(rt, container, &numbers, count)
 }
 
 // Lends so many of the numbers as draws.
-fn lend(container: &[u8], numbers: &[i64], count: usize) {
+fn lend<R: Print + Eprint>(
+    rt: &R,
+    container: &[u8],
+    numbers: &[i64],
+    count: usize,
+) -> io::Result<()> {
     if count <= numbers.len() {
-        report::report(container, &numbers[..count]);
+        report::report(rt, container, &numbers[..count])?;
     }
+    Ok(())
 }

@@ -4,45 +4,49 @@
 
 mod printed;
 
-ghost use Rattle.std.specs.Prelude.{[]};
+ghost use Rattle.std.specs.Prelude.{[], IfOk};
 ghost use Rattle.demands.specs.Given.{given};
 ghost use Rattle.report.specs.promises.Number.{CallNumber};
 
+use std::io;
+
 // Runs a container, with draws, over slices of its own, prints what the monitor makes of it, and answers the number that a call of `cilunovay_run` with
 // slices of enough elements answers. What it prints is tested and not proved.
-pub fn report(container: &[u8], draws: &[i64]) -> u32
-    ensures { CallNumber (given container.now draws.now [] [] [] []) result }
+pub fn report<R: Print + Eprint>(rt: &R, container: &[u8], draws: &[i64]) -> io::Result<u32>
+    ensures { IfOk result (λ number. CallNumber (given container.now draws.now [] [] [] []) number) }
 {
     let none = [0u8; 0];
-    run(container, draws, &none, &none, &none, &none, false)
+    run(rt, container, draws, &none, &none, &none, &none, false)
 }
 
 // The same with overlays, and no draws.
-pub fn report_overlaid(
+pub fn report_overlaid<R: Print + Eprint>(
+    rt: &R,
     container: &[u8],
     overlay_0: &[u8],
     overlay_1: &[u8],
     overlay_2: &[u8],
     overlay_3: &[u8],
-) -> u32
-    ensures { CallNumber (given container.now [] overlay_0.now overlay_1.now overlay_2.now
-        overlay_3.now) result }
+) -> io::Result<u32>
+    ensures { IfOk result (λ number. CallNumber (given container.now [] overlay_0.now overlay_1.now
+        overlay_2.now overlay_3.now) number) }
 {
     let draws = [0i64; 0];
     run(
-        container, &draws, overlay_0, overlay_1, overlay_2, overlay_3, false,
+        rt, container, &draws, overlay_0, overlay_1, overlay_2, overlay_3, false,
     )
 }
 
 // Runs a container, with draws, and prints the text of a release alone; of a refusal it prints the X line, on standard error.
-pub fn export(container: &[u8], draws: &[i64]) -> u32
-    ensures { CallNumber (given container.now draws.now [] [] [] []) result }
+pub fn export<R: Print + Eprint>(rt: &R, container: &[u8], draws: &[i64]) -> io::Result<u32>
+    ensures { IfOk result (λ number. CallNumber (given container.now draws.now [] [] [] []) number) }
 {
     let none = [0u8; 0];
-    run(container, draws, &none, &none, &none, &none, true)
+    run(rt, container, draws, &none, &none, &none, &none, true)
 }
 
-fn run(
+fn run<R: Print + Eprint>(
+    rt: &R,
     container: &[u8],
     draws: &[i64],
     overlay_0: &[u8],
@@ -50,9 +54,9 @@ fn run(
     overlay_2: &[u8],
     overlay_3: &[u8],
     as_text: bool,
-) -> u32
-    ensures { CallNumber (given container.now draws.now overlay_0.now overlay_1.now
-        overlay_2.now overlay_3.now) result }
+) -> io::Result<u32>
+    ensures { IfOk result (λ number. CallNumber (given container.now draws.now overlay_0.now
+        overlay_1.now overlay_2.now overlay_3.now) number) }
 {
     let mut values = [0i64; 8192];
     let mut labels = [0u32; 8192];
@@ -77,10 +81,10 @@ fn run(
         &mut answer,
     );
     if as_text {
-        printed::export(&text, &answer);
-        return number;
+        printed::export(rt, &text, &answer)?;
+        return Ok(number);
     }
     let steps = plan_part::step_count(layout::part(container, 0));
-    printed::print(&output, &trace, &answer, steps);
-    number
+    printed::print(rt, &output, &trace, &answer, steps)?;
+    Ok(number)
 }

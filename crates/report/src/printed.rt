@@ -1,119 +1,96 @@
 // What stands for an answer: its lines, or the text of a release.
-use libc::{STDERR_FILENO, STDOUT_FILENO};
-use std::num::wrapping_add_usize;
-use value::pattern;
+use std::{fmt, io};
 
 // The lines of an answer in numbers, whose plan has so many steps.
-pub fn print(output: &[i64], trace: &[u32], answer: &[u64; 4], steps: usize) {
+pub fn print<R: Print>(
+    rt: &R,
+    output: &[i64],
+    trace: &[u32],
+    answer: &[u64; 4],
+    steps: usize,
+) -> io::Result<()> {
     let number = answer[0];
     if number == 0 {
-        finished(trace, steps);
-        released(output, answer[1] as usize, answer[2] as usize);
-        return;
+        finished(rt, trace, steps)?;
+        return released(rt, output, answer[1] as usize, answer[2] as usize);
     }
     if 31 <= number {
-        finished(trace, answer[1] as usize);
+        finished(rt, trace, answer[1] as usize)?;
     }
-    refused(STDOUT_FILENO, answer);
+    println!(rt; "{}", Refused(answer))
 }
 
 // The text of a release, on standard output; the line of a refusal, on standard error.
-pub fn export(bytes: &[u8], answer: &[u64; 4]) {
+pub fn export<R: Print + Eprint>(rt: &R, bytes: &[u8], answer: &[u64; 4]) -> io::Result<()> {
     if answer[0] == 0 {
-        beginning(bytes, answer[3] as usize);
+        beginning(rt, bytes, answer[3] as usize)
     } else {
-        refused(STDERR_FILENO, answer);
+        eprintln!(rt; "{}", Refused(answer))
     }
 }
 
 // So many bytes of a text.
-fn beginning(bytes: &[u8], length: usize) {
+fn beginning<R: Print>(rt: &R, bytes: &[u8], length: usize) -> io::Result<()> {
     if length <= bytes.len() {
-        text(STDOUT_FILENO, &bytes[..length]);
+        rt.write_all(&bytes[..length])?;
     }
+    Ok(())
 }
 
 // The line of a refusal: a place of the input is one number, any other three.
-fn refused(to: i32, answer: &[u64; 4]) {
-    let number = answer[0];
-    text(to, b"X");
-    decimal(to, number);
-    decimal(to, answer[1]);
-    if !((11 <= number) & (number < 31)) {
-        decimal(to, answer[2]);
-        decimal(to, answer[3]);
+#[derive(Drop)]
+struct Refused<'a>(&'a [u64; 4]);
+
+impl fmt::Display for Refused<'_> {
+    fn fmt<W: fmt::Write>(&self, f: &mut fmt::Formatter<W>) -> fmt::Result {
+        let [number, first, row, column] = *self.0;
+        write!(f, "X {number} {first}")?;
+        if !((11 <= number) & (number < 31)) {
+            write!(f, " {row} {column}")?;
+        }
+        Ok(())
     }
-    text(to, b"\n");
 }
 
 // The lines of the first steps.
-fn finished(trace: &[u32], steps: usize) {
-    let mut step = 0;
-    while step < steps {
-        step_line(trace, step);
-        step += 1;
+fn finished<R: Print>(rt: &R, trace: &[u32], steps: usize) -> io::Result<()> {
+    for step in 0..steps {
+        step_line(rt, trace, step)?;
     }
+    Ok(())
 }
 
-fn step_line(trace: &[u32], step: usize) {
+fn step_line<R: Print>(rt: &R, trace: &[u32], step: usize) -> io::Result<()> {
     if trace.len() / 4 <= step {
-        return;
+        return Ok(());
     }
-    text(STDOUT_FILENO, b"S");
-    decimal(STDOUT_FILENO, step as u64);
-    small(trace[4 * step]);
-    small(trace[4 * step + 1]);
-    small(trace[4 * step + 2]);
-    small(trace[4 * step + 3]);
-    text(STDOUT_FILENO, b"\n");
+    println!(rt;
+        "S {step} {} {} {} {}",
+        trace[4 * step],
+        trace[4 * step + 1],
+        trace[4 * step + 2],
+        trace[4 * step + 3]
+    )
 }
 
 // The released rows, row by row from the output's start.
-fn released(output: &[i64], rows: usize, columns: usize) {
-    let mut at = 0;
-    let mut row = 0;
-    while row < rows {
-        text(STDOUT_FILENO, b"R");
-        row_values(output, at, columns);
-        text(STDOUT_FILENO, b"\n");
-        at = wrapping_add_usize(at, columns);
-        row += 1;
+fn released<R: Print>(rt: &R, output: &[i64], rows: usize, columns: usize) -> io::Result<()> {
+    let mut at: usize = 0;
+    for _ in 0..rows {
+        print!(rt; "R")?;
+        row_values(rt, output, at, columns)?;
+        println!(rt)?;
+        at = at.wrapping_add(columns);
     }
+    Ok(())
 }
 
 // So many values from a place on.
-fn row_values(output: &[i64], at: usize, columns: usize) {
-    let mut column = 0;
-    while column < columns {
-        value_at(output, wrapping_add_usize(at, column));
-        column += 1;
+fn row_values<R: Print>(rt: &R, output: &[i64], at: usize, columns: usize) -> io::Result<()> {
+    for column in 0..columns {
+        if let Some(value) = output.get(at.wrapping_add(column)) {
+            print!(rt; " {value}")?;
+        }
     }
-}
-
-fn value_at(output: &[i64], place: usize) {
-    if place < output.len() {
-        signed(output[place]);
-    }
-}
-
-fn signed(value: i64) {
-    if pattern::negative(value) {
-        text(STDOUT_FILENO, b" -");
-        io::print_decimal(STDOUT_FILENO, pattern::magnitude(value));
-        return;
-    }
-    decimal(STDOUT_FILENO, pattern::magnitude(value));
-}
-
-fn small(number: u32) {
-    decimal(STDOUT_FILENO, number as u64);
-}
-
-fn decimal(to: i32, number: u64) {
-    text(to, b" ");
-    io::print_decimal(to, number);
-}
-
-fn text(to: i32, bytes: &[u8]) {
-    io::write_all(to, bytes);
+    Ok(())
 }
