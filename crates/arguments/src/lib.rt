@@ -1,7 +1,7 @@
 // What a program reads: its input, and the files that its arguments name.
 #![tactic(auto)]
 
-ghost use Rattle.std.specs.Prelude.{◌≤◌, length, IfOk};
+ghost use Rattle.std.specs.Prelude.{◌≡◌, ◌≤◌, length, IfOk, OnErr};
 
 use std::fs::Files;
 use std::io::Read;
@@ -22,7 +22,8 @@ pub fn read_argument<R: Files + Print + Eprint>(
     named: bool,
     bytes: &mut [u8],
 ) -> io::Result<File>
-    ensures { IfOk result (λ file. file.length ≤ length bytes.new) }
+    ensures ok { IfOk result (λ file. file.length ≤ length bytes.new) }
+    ensures err { OnErr result (length bytes.new ≡ length bytes.old) }
 {
     let name = names.get(index).map_or("", |name| name.as_str());
     let mut file = match fs::open(rt, name) {
@@ -47,7 +48,8 @@ pub fn read_argument<R: Files + Print + Eprint>(
 
 // Reads until the bytes are full or the input ends, and answers how many it read.
 pub fn read_full<R: Read>(reader: &mut R, bytes: &mut [u8]) -> io::Result<usize>
-    ensures { IfOk result (λ read. read ≤ length bytes.new) }
+    ensures ok { IfOk result (λ read. read ≤ length bytes.new) }
+    ensures err { OnErr result (length bytes.new ≡ length bytes.old) }
 {
     let mut read = 0;
     while read < bytes.len() {

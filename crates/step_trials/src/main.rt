@@ -12,12 +12,12 @@ mod reading;
 mod tables;
 
 use crate::reading::{part, same};
-use std::io::{self, Read};
+use std::io;
 
 fn main(rt: HostRuntime) -> io::Result<()> {
-    let mut input = Vec::new(rt.alloc());
-    rt.reader().read_to_end(&mut input)?;
-    lines(&rt, input.as_slice())
+    let mut input = [0u8; 65536];
+    let length = arguments::read_full(&mut rt.stdin(), &mut input)?;
+    lines(&rt, &input[..length])
 }
 
 // Runs the lines, one after the other, each with the last container before it.
