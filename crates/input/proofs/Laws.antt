@@ -5,15 +5,13 @@ use mathlib.Core.Bool.{Bool, true, false}
 use native.Mathlib.Omega.{arith}
 use lib.Dec.{leb}
 use borrow.Author.Tests.{leb-true, leb-false}
-use Rattle.input.specs.Answers.{plan_refusal_says, input_refusal_says}
+use Rattle.std.specs.Prelude.{Result, Ok, Err}
+use Rattle.input.specs.Answers.{plan_refusal_says, input_refusal_says, input_says}
 use Rattle.input.specs.Verdict.{InputVerdict, accepted, rejected, and_then, reject_if}
-use Rattle.input.specs.declared.InputCheck.{InputCheck}
-use Rattle.input.specs.declared.InputCheck.TheVariants as check
 use Rattle.input.specs.declared.InputRefusal.{InputRefusal}
 use Rattle.input.specs.declared.InputRefusal.TheVariants as input
 use Rattle.input.specs.declared.PlanRefusal.{PlanRefusal}
 use Rattle.input.specs.declared.PlanRefusal.TheVariants as plan
-use Rattle.input.specs.promises.Checks.{input_says}
 
 -- ---- what an accepted verdict says of the tests that it is made of
 
@@ -56,11 +54,11 @@ module _ (P : InputVerdict → Type 0) (h : (number place : ℕ) → P (rejected
   refusal-rejects (input.OverlayLabel place) = h 22 place
 
 -- nothing after a refusal counts
-pub stands : (r : InputCheck) (later : InputVerdict) {why : InputRefusal} → r ≡ check.Refused why → and_then (input_says r) later ≡ input_says r
+pub stands : (r : Result (Unit {0}) InputRefusal) (later : InputVerdict) {why : InputRefusal} → r ≡ Err why → and_then (input_says r) later ≡ input_says r
 stands r later {why} e = rw e (refusal-rejects (λ v. and_then v later ≡ v) (λ number place. refl) why)
 
 -- the verdict accepts where the answer does
-pub passes : (r : InputCheck) (v : InputVerdict) → input_says r ≡ v → r ≡ check.Accepted → v ≡ accepted
+pub passes : (r : Result (Unit {0}) InputRefusal) (v : InputVerdict) {done : Unit {0}} → input_says r ≡ v → r ≡ Ok done → v ≡ accepted
 passes r v e k = sym e ∙ ap input_says k
 
 -- of three checks, the first two may be taken together

@@ -1,12 +1,8 @@
 -- "Refused because of the input (place: a byte offset)": the number and the place of each answer of the input checks.
-use Rattle.std.specs.Prelude.{ℕ}
+use Rattle.std.specs.Prelude.{ℕ, Result, Ok, Err}
 use Rattle.input.specs.Verdict.{InputVerdict, accepted, rejected}
-use Rattle.input.specs.declared.InputCheck.TheVariants as check
-use Rattle.input.specs.declared.InputCheck.{InputCheck}
 use Rattle.input.specs.declared.InputRefusal.TheVariants as input
 use Rattle.input.specs.declared.InputRefusal.{InputRefusal}
-use Rattle.input.specs.declared.PlanCheck.TheVariants as plan_check
-use Rattle.input.specs.declared.PlanCheck.{PlanCheck}
 use Rattle.input.specs.declared.PlanRefusal.TheVariants as plan
 use Rattle.input.specs.declared.PlanRefusal.{PlanRefusal}
 
@@ -36,10 +32,10 @@ plan_refusal_says refusal = plan_tells rejected refusal
 abbrev pub input_refusal_says : InputRefusal → InputVerdict
 input_refusal_says refusal = input_tells rejected refusal
 
-abbrev pub plan_says : PlanCheck → InputVerdict
-plan_says plan_check.Accepted = accepted
-plan_says (plan_check.Refused refusal) = plan_refusal_says refusal
+abbrev pub plan_says : Result (Unit {0}) PlanRefusal → InputVerdict
+plan_says (Ok _) = accepted
+plan_says (Err refusal) = plan_refusal_says refusal
 
-abbrev pub input_says : InputCheck → InputVerdict
-input_says check.Accepted = accepted
-input_says (check.Refused refusal) = input_refusal_says refusal
+abbrev pub input_says : Result (Unit {0}) InputRefusal → InputVerdict
+input_says (Ok _) = accepted
+input_says (Err refusal) = input_refusal_says refusal

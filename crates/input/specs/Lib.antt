@@ -1,4 +1,3 @@
--- What the input checks answer. `Verdict` and `Answers` are what a reader must believe; `promises` has what crates promise one another.
+-- What the input checks answer; a reader must believe both.
 pub mod Verdict
 pub mod Answers
-pub mod promises

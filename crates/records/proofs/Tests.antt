@@ -7,9 +7,9 @@ use native.Mathlib.Omega.{arith}
 use lib.Dec.{eqb, leb}
 use lib.ListN.{length, get_or-eq_default}
 use borrow.Author.Tests.{leb-true, eq-eqb}
+use Rattle.std.specs.Prelude.{None}
 use Rattle.records.specs.Record.{fields_at, amount_fits, by_kind, step_of}
 use Rattle.records.specs.declared.Fields.{Fields}
-use Rattle.records.specs.declared.Found.TheVariants as found
 use Rattle.little_endian.proofs.Numbers.{past_end}
 
 pub amount-most : (most : ℕ) (f : Fields) → amount_fits most f ≡ true → f.constant ≤ most
@@ -23,7 +23,7 @@ unfolding step_of
 kind-is f k s e = rw (eq-eqb f.spare 0 s) (ap (λ (n : ℕ). by_kind n f) e)
 
 -- a record past the end is of kind 0, which is no step
-pub past-plan : (part : List ℕ) (step : ℕ) → length part ≤ 16 * step → found.Nothing ≡ step_of (fields_at part step)
+pub past-plan : (part : List ℕ) (step : ℕ) → length part ≤ 16 * step → None ≡ step_of (fields_at part step)
 unfolding fields_at
 past-plan part step h =
     sym (kind-is (fields_at part step) 0 (sym (past_end part (16 * step + 5) 3 (omega arith))) (get_or-eq_default part 0 h))

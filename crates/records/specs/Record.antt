@@ -1,5 +1,5 @@
 -- "steps of 16 bytes: kind, a, b, c, d, three zero bytes, and a signed 64-bit constant in value range. Unused fields are zero."
-use Rattle.std.specs.Prelude.{ℕ, ◌+◌, ◌-◌, ◌*◌, ◌^◌, Bool, cond, not, ◌&&◌, ◌||◌, List, eqb, leb, ltb}
+use Rattle.std.specs.Prelude.{ℕ, ◌+◌, ◌-◌, ◌*◌, ◌^◌, Bool, cond, not, ◌&&◌, ◌||◌, List, Option, Some, None, eqb, leb, ltb}
 use Rattle.little_endian.specs.Bytes.{number_at, byte_at}
 use Rattle.plan.specs.declared.Aggregate.{Aggregate}
 use Rattle.plan.specs.declared.Aggregate.TheVariants.{Count, Sum, Min, Max, Avg}
@@ -11,8 +11,6 @@ use Rattle.plan.specs.declared.Step.{Step}
 use Rattle.plan.specs.declared.Step.TheVariants.{Scan, Union, Join, Filter, Keep, Apply, Group, Noise}
 use Rattle.plan.specs.declared.Transform.TheVariants.{Add, Sub, Cut, Band}
 use Rattle.records.specs.declared.Fields.{Fields}
-use Rattle.records.specs.declared.Found.{Found}
-use Rattle.records.specs.declared.Found.TheVariants as found
 use Rattle.value.specs.Pattern.{signed_of}
 use Rattle.value.specs.Range.{in_range}
 
@@ -51,19 +49,19 @@ abbrev pub zeros : ℕ → ℕ → Bool
 zeros x constant = eqb x 0 && eqb constant 0
 
 -- a step, where its record is as it should be
-abbrev pub when : Bool → Step → Found
-when fits step = cond fits (found.Step step) found.Nothing
+abbrev pub when : Bool → Step → Option Step
+when fits step = cond fits (Some step) None
 
 -- APPLY, by its choice
-abbrev pub apply_by : ℕ → Fields → Found
+abbrev pub apply_by : ℕ → Fields → Option Step
 apply_by b f =
     cond (eqb b 0) (when (operand_written f) (Apply f.a (Add (operand_of f))))
     (cond (eqb b 1) (when (operand_written f) (Apply f.a (Sub (operand_of f))))
     (cond (eqb b 2) (when (amount_fits 6 f) (Apply f.a (Cut f.constant)))
-    (cond (eqb b 3) (when (amount_fits (2 ^ 47 - 1) f) (Apply f.a (Band (signed_of f.constant)))) found.Nothing)))
+    (cond (eqb b 3) (when (amount_fits (2 ^ 47 - 1) f) (Apply f.a (Band (signed_of f.constant)))) None)))
 
 -- the step of each kind (8 by #102); "17: kind, a choice, a constant, a zero mask in KEEP, or an unused field .. not zero"
-abbrev pub by_kind : ℕ → Fields → Found
+abbrev pub by_kind : ℕ → Fields → Option Step
 by_kind kind f =
     cond (eqb kind 1) (when (zeros (f.b + f.c + f.d) f.constant) (Scan f.a))
     (cond (eqb kind 2) (when (zeros (f.a + f.b + f.c + f.d) f.constant) Union)
@@ -72,8 +70,8 @@ by_kind kind f =
     (cond (eqb kind 5) (when (not (eqb f.a 0) && zeros (f.b + f.c + f.d) f.constant) (Keep f.a))
     (cond (eqb kind 6) (apply_by f.b f)
     (cond (eqb kind 7) (when (ltb f.b 5 && zeros f.d f.constant) (Group f.a (aggregate_of f.b) f.c))
-    (cond (eqb kind 8) (when (zeros (f.b + f.c + f.d) f.constant) (Noise f.a)) found.Nothing)))))))
+    (cond (eqb kind 8) (when (zeros (f.b + f.c + f.d) f.constant) (Noise f.a)) None)))))))
 
 -- ".. or one of the three bytes not zero"
-unfoldable pub step_of : Fields → Found
-step_of f = cond (eqb f.spare 0) (by_kind f.kind f) found.Nothing
+unfoldable pub step_of : Fields → Option Step
+step_of f = cond (eqb f.spare 0) (by_kind f.kind f) None

@@ -1,8 +1,6 @@
 // A plan's records: the step of each, where the record is as it should be.
 #![tactic(auto)]
 
-use plan::Step;
-
 mod record;
 
 pub use record::found_at;
@@ -17,11 +15,4 @@ pub struct Fields {
     pub d: usize,
     pub spare: usize,
     pub constant: u64,
-}
-
-// A step, if a record has one.
-#[derive(Clone, Copy)]
-pub enum Found {
-    Step(Step),
-    Nothing,
 }

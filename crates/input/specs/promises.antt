@@ -1,2 +1,0 @@
--- What the crates promise one another.
-pub mod Checks
