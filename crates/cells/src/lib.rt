@@ -5,10 +5,13 @@ mod ranges;
 
 pub use ranges::{table_within, within};
 
-// The first cell that a search finds, by its row and column.
-#[derive(Clone, Copy)]
-pub enum Place {
-    At(usize, usize),
-    Nowhere,
-    DoesNotFit,
+// The cell that a search finds, by its row and column.
+#[derive(Clone, Copy, PartialEq, Eq, Debug)]
+pub struct At {
+    pub row: usize,
+    pub column: usize,
 }
+
+// Slices and numbers that do not fit one another.
+#[derive(Clone, Copy, PartialEq, Eq, Debug)]
+pub struct DoesNotFit;

@@ -1,9 +1,9 @@
 -- Searches over a table in memory, and what they count.
-use Rattle.std.specs.Prelude.{ℕ, ◌+◌, ◌*◌, Bool, cond, ◌&&◌, List, leb, length, drop}
+use Rattle.std.specs.Prelude.{ℕ, ◌+◌, ◌*◌, Bool, cond, ◌&&◌, List, leb, length, drop, Option, Some, None, Result, Ok, Err}
 use Rattle.plan.specs.Masks.{in_mask}
 use Rattle.cells.specs.promises.Cells.{within, grid_of}
-use Rattle.cells.specs.declared.Place.{Place}
-use Rattle.cells.specs.declared.Place.TheVariants as place
+use Rattle.cells.specs.declared.At.{At}
+use Rattle.cells.specs.declared.DoesNotFit.{DoesNotFit}
 use Rattle.plan.specs.Verdict.{Verdict, fine, refused, not_clear}
 
 -- what a search or a step answers: a verdict, or that its arguments do not fit
@@ -15,11 +15,11 @@ pub data Reply : Type 0 where
 abbrev pub table_within : ℕ → ℕ → ℕ → ℕ → Bool
 table_within at rows columns length = leb rows 256 && leb columns 8 && within at (rows * columns) length
 
--- the refusal of a place that a search found, under a number, the rows counted from `first` on
-abbrev pub place_says : ℕ → ℕ → Place → Reply
-place_says number first (place.At row column) = says (refused number (first + row) column)
-place_says number first place.Nowhere = says fine
-place_says number first place.DoesNotFit = unfit
+-- the refusal of the cell that a search found, under a number, the rows counted from `first` on
+abbrev pub place_says : ℕ → ℕ → Result (Option At) DoesNotFit → Reply
+place_says number first (Ok (Some at)) = says (refused number (first + at.row) at.column)
+place_says number first (Ok None) = says fine
+place_says number first (Err wrong) = unfit
 
 -- the first cell, in the columns of a mask, that is not clear
 abbrev pub not_clear_at : ℕ → ℕ → List ℕ → ℕ → ℕ → ℕ → ℕ → Reply
