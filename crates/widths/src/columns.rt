@@ -4,31 +4,26 @@ ghost use Rattle.plan.specs.Keep.{kept_count};
 ghost use Rattle.plan.specs.Widths as spec;
 ghost use Rattle.widths.specs.promises.Widths.{made_width};
 
-use super::Width;
 use plan::{Operand, Step, Transform};
 
-// 19: the columns of the table that a step makes, over tables of at most 8 columns. `tables` are the widths of the container's tables,
-// `right` is the width of the last table pushed, and `left` of the one before it, 0 where there is none.
-pub fn made_width(step: Step, tables: &[usize], left: usize, right: usize) -> Width
+// 19: the columns of the table that a step makes, over tables of at most 8 columns; none where a table or column that it names does not
+// exist, two widths are unequal, or it would make over 8 columns. `tables` are the widths of the container's tables, `right` is the width of
+// the last table pushed, and `left` of the one before it, 0 where there is none.
+pub fn made_width(step: Step, tables: &[usize], left: usize, right: usize) -> Option<usize>
     ensures { result ≡ made_width step tables.now left right }
 {
-    if 8 < left {
-        return Width::Misplaced;
-    }
-    if 8 < right {
-        return Width::Misplaced;
-    }
-    if !columns_exist(step, tables, left, right) {
-        return Width::Misplaced;
+    if 8 < left || 8 < right || !columns_exist(step, tables, left, right) {
+        return None;
     }
     let columns = made_columns(step, tables, left, right);
     if 8 < columns {
-        return Width::Misplaced;
+        return None;
     }
-    Width::Columns(columns)
+    Some(columns)
 }
 
 // Whether the table and the columns that a step names exist.
+#[tactic(auto, unfolding(plan::specs::Widths::columns_exist))]
 fn columns_exist(step: Step, tables: &[usize], left: usize, right: usize) -> bool
     requires { right ≤ 8 }
     ensures { result ≡ spec.columns_exist step tables.now (right ∷ left ∷ []) }
@@ -39,21 +34,18 @@ fn columns_exist(step: Step, tables: &[usize], left: usize, right: usize) -> boo
         Step::Join { left: a, right: b } => (a < left) & (b < right),
         Step::Filter {
             column,
-            comparison: _,
             operand,
+            ..
         } => (column < right) & operand_within(operand, right),
         Step::Keep { mask } => mask_fits(mask, right),
         Step::Apply { column, transform } => (column < right) & transform_within(transform, right),
-        Step::Group {
-            keys,
-            aggregate: _,
-            column,
-        } => mask_fits(keys, right) & (column < right),
+        Step::Group { keys, column, .. } => mask_fits(keys, right) & (column < right),
         Step::Noise { column } => column < right,
     }
 }
 
 // The columns of the table that a step makes, where the columns that it names exist.
+#[tactic(auto, unfolding(plan::specs::Widths::made_columns))]
 fn made_columns(step: Step, tables: &[usize], left: usize, right: usize) -> usize
     requires { (left ≤ 8) × (right ≤ 8) × (spec.columns_exist step tables.now (right ∷ left ∷ []) ≡ true) }
     ensures { result ≡ spec.made_columns step tables.now (right ∷ left ∷ []) }
@@ -61,23 +53,12 @@ fn made_columns(step: Step, tables: &[usize], left: usize, right: usize) -> usiz
     match step {
         Step::Scan { table } => tables[table],
         Step::Union => left,
-        Step::Join { left: _, right: _ } => left + (right - 1),
-        Step::Filter {
-            column: _,
-            comparison: _,
-            operand: _,
-        } => right,
+        Step::Join { .. } => left + (right - 1),
+        Step::Filter { .. } => right,
         Step::Keep { mask } => kept_count(mask, right),
-        Step::Apply {
-            column: _,
-            transform: _,
-        } => right + 1,
-        Step::Group {
-            keys,
-            aggregate: _,
-            column: _,
-        } => kept_count(keys, right) + 1,
-        Step::Noise { column: _ } => right + 1,
+        Step::Apply { .. } => right + 1,
+        Step::Group { keys, .. } => kept_count(keys, right) + 1,
+        Step::Noise { .. } => right + 1,
     }
 }
 
@@ -95,10 +76,8 @@ fn kept_count(mask: u32, width: usize) -> usize
     ensures { result ≡ kept_count mask width }
 {
     let mut count = 0;
-    let mut column = 0;
-    while column < width {
+    for column in 0..width {
         count += ((mask >> column) % 2) as usize;
-        column += 1;
     }
     count
 }
@@ -118,9 +97,7 @@ fn transform_within(transform: Transform, width: usize) -> bool
     ensures { result ≡ spec.transform_column_exists transform width }
 {
     match transform {
-        Transform::Add(operand) => operand_within(operand, width),
-        Transform::Sub(operand) => operand_within(operand, width),
-        Transform::Cut(_) => true,
-        Transform::Band(_) => true,
+        Transform::Add(operand) | Transform::Sub(operand) => operand_within(operand, width),
+        Transform::Cut(_) | Transform::Band(_) => true,
     }
 }

@@ -1,23 +1,13 @@
 -- `widths::columns::kept_count` meets its contract. Assumes nothing.
-use mathlib.Core.Path.{◌≡◌, refl, ap, ◌∙◌}
 use native.Mathlib.Numerals.{add-one}
 use native.Mathlib.Omega.{arith}
 use Rattle.plan.specs.Masks.{in_mask}
-use Rattle.plan.specs.Keep.{kept_count}
 use Rattle.widths.proofs.Laws.{kept-le, kept_more}
 use Rattle.widths.proofs.columns.kept_count.Goals as goal
-
-pub loop-column-init : goal.loop-column-init
-loop-column-init c = (omega arith, refl)
 
 pub overflow_add-count : goal.overflow_add-count
 overflow_add-count c = omega (arith, kept-le c.args.mask c.loop-column.column)
 
 pub loop-column-preserved : goal.loop-column-preserved
 unfolding in_mask
-loop-column-preserved c = (omega arith, rw (add-one c.loop-column.column, kept_more c.args.mask c.loop-column.column, ← c.loop-column.invariant.1))
-
-pub returns : goal.returns
-returns c =
-    let e : c.loop-column.column ≡ c.args.width = omega arith in
-    c.loop-column.invariant.1 ∙ ap (kept_count c.args.mask) e
+loop-column-preserved c = rw (add-one c.loop-column.column, kept_more c.args.mask c.loop-column.column, ← c.loop-column.invariant)

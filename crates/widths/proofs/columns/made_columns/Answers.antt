@@ -6,7 +6,7 @@ use lib.Dec.{ltb}
 use lib.ListN.{length}
 use borrow.Author.Rules.{rules}
 use borrow.Author.Tests.{ltb-true}
-use Rattle.plan.specs.Widths.{columns_exist, made_columns}
+use Rattle.plan.specs.Widths.{columns_exist}
 use Rattle.widths.proofs.Laws.{kept-le}
 use Rattle.widths.proofs.columns.made_columns.Goals as goal
 use Rattle.widths.proofs.columns.made_columns.Goals.{In-Scan}
@@ -34,35 +34,3 @@ overflow_sub-result c =
 
 pub overflow_add-result-in-Group : goal.overflow_add-result-in-Group
 overflow_add-result-in-Group c = omega (arith, c.kept_count-in-Group.ensures, kept-le c.in-Group.keys c.args.right)
-
-pub returns-in-Scan : goal.returns-in-Scan
-unfolding made_columns
-returns-in-Scan c = rw c.in-Scan.is
-
-pub returns-in-Union : goal.returns-in-Union
-unfolding made_columns
-returns-in-Union c = rw c.in-Union.is
-
-pub returns-in-Join : goal.returns-in-Join
-unfolding made_columns
-returns-in-Join c = rw c.in-Join.is
-
-pub returns-in-Filter : goal.returns-in-Filter
-unfolding made_columns
-returns-in-Filter c = rw c.in-Filter.is
-
-pub returns-in-Keep : goal.returns-in-Keep
-unfolding made_columns
-returns-in-Keep c = rw c.in-Keep.is c.kept_count.ensures
-
-pub returns-in-Apply : goal.returns-in-Apply
-unfolding made_columns
-returns-in-Apply c = rw c.in-Apply.is
-
-pub returns-in-Group : goal.returns-in-Group
-unfolding made_columns
-returns-in-Group c = rw (c.in-Group.is, c.kept_count-in-Group.ensures)
-
-pub returns-in-Noise : goal.returns-in-Noise
-unfolding made_columns
-returns-in-Noise c = rw c.in-Noise.is
