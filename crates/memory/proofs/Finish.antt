@@ -2,7 +2,7 @@
 use Prim.Native.Nat.{ℕ, ◌+◌, ◌-◌, ◌≤◌, ◌<◌}
 use mathlib.Core.Path.{◌≡◌, refl, sym, ap, ap₂, ◌∙◌}
 use mathlib.Core.Bool.{Bool, true, false, cond, ◌&&◌, true≢false, and-false}
-use mathlib.Core.List.{List, [], ◌∷◌, ◌++◌, map}
+use mathlib.Core.List.{List, ◌∷◌, ◌++◌, map}
 use native.Mathlib.Omega.{arith}
 use lib.Dec.{leb}
 use lib.ListN.{length, take, drop, length-map, take-append-drop}
@@ -14,15 +14,16 @@ use Rattle.plan.specs.Table.{Cell, flat, Each, Row, Table, rows_of}
 use Rattle.cells.specs.promises.Search.{says, unfit}
 use Rattle.cells.specs.promises.Work.{Work, Memory, cells_in, mark_room, Kept, MarksKept, AllKept}
 use Rattle.cells.specs.promises.Written.{Written, CellsWritten}
-use Rattle.widths.specs.declared.Width.TheVariants.{Columns, Misplaced}
+use Rattle.std.specs.Prelude.{Ok, Err}
+use Rattle.cells.specs.declared.DoesNotFit.{DoesNotFit}
 use Rattle.memory.specs.Refusals.{refusal_tells}
 use Rattle.memory.specs.declared.Refusal.{Refusal}
 use Rattle.memory.specs.declared.Refusal.TheVariants.{NotClear, Forbidden, OperandNotClear, TooMany, NoDraw}
 use Rattle.live_tables.specs.declared.Stack.{Stack}
-use Rattle.memory.specs.declared.StepAnswer.{StepAnswer}
-use Rattle.memory.specs.declared.StepAnswer.TheVariants.{Made, Refused, DoesNotFit}
+use Rattle.memory.specs.declared.StepError.{StepError}
+use Rattle.memory.specs.declared.StepError.TheVariants as error
 use Rattle.memory.specs.promises.Stack.{ready, Ready, last_slot, last_marks, slot, mark_slot, mark_part, table_in, stack_in, with_table, RowsAt, MarksAt}
-use Rattle.memory.specs.promises.Steps.{refusal_says, step_says, verdict, leaves_rows, DoneWhere}
+use Rattle.memory.specs.promises.Steps.{refusal_says, error_says, verdict, leaves_rows, DoneWhere}
 use Rattle.plan.specs.Steps.{takes, make}
 use Rattle.plan.specs.Verdict.{Verdict, fine, refused, or_else}
 use Rattle.plan.specs.declared.Step.{Step}
@@ -30,9 +31,6 @@ use Rattle.cells.proofs.CellLaws.{cells-length, marks-none, all_none}
 use Rattle.cells.proofs.Rows.{rows-flat}
 use Rattle.cells.proofs.Written.{as_long, below-written, from-written}
 use Rattle.memory.proofs.Stacks.{to-ready, with-ready, stack-with}
-use Rattle.memory.specs.contracts.StepAnswer.{the_type}
-use denote.Enum.Declared.{tag_of}
-use types.Run.{OneOf, miss}
 
 pub or_nothing : (v : Verdict) → or_else v fine ≡ v
 or_nothing fine = refl
@@ -53,11 +51,11 @@ fine-parts true e = (refl, sym (says_is e))
 fine-parts false e = absurd (never-unfit (sym e))
 
 -- what a test of the arguments found
-pub columns-fit : (b : Bool) (m : ℕ) {n : ℕ} → cond b (Columns m) Misplaced ≡ Columns n → (b ≡ true) × (n ≡ m)
+pub columns-fit : (b : Bool) (m : ℕ) {n : ℕ} {wrong : DoesNotFit} → cond b (Ok m) (Err wrong) ≡ Ok n → (b ≡ true) × (n ≡ m)
 columns-fit true m e = (refl, cc)
-columns-fit false m e = (cc, cc)
+columns-fit false m e = cc
 
-pub columns-misfit : (b : Bool) (m : ℕ) → cond b (Columns m) Misplaced ≡ Misplaced → b ≡ false
+pub columns-misfit : (b : Bool) (m : ℕ) {wrong found : DoesNotFit} → cond b (Ok m) (Err wrong) ≡ Err found → b ≡ false
 columns-misfit true m e = cc
 columns-misfit false m e = refl
 
@@ -73,11 +71,11 @@ pub record Verdicts (refusal : Refusal) : Type 1 where
   pub is : refusal_says refusal ≡ refused number row column
 
 pub verdicts : (refusal : Refusal) → Verdicts refusal
-verdicts (NotClear row column) = record { number = 31; row = row; column = column; tells = λ tell. refl; is = refl }
-verdicts (Forbidden row column) = record { number = 32; row = row; column = column; tells = λ tell. refl; is = refl }
-verdicts (OperandNotClear row column) = record { number = 33; row = row; column = column; tells = λ tell. refl; is = refl }
+verdicts (NotClear at) = record { number = 31; row = at.row; column = at.column; tells = λ tell. refl; is = refl }
+verdicts (Forbidden at) = record { number = 32; row = at.row; column = at.column; tells = λ tell. refl; is = refl }
+verdicts (OperandNotClear at) = record { number = 33; row = at.row; column = at.column; tells = λ tell. refl; is = refl }
 verdicts TooMany = record { number = 34; row = 256; column = 0; tells = λ tell. refl; is = refl }
-verdicts (NoDraw row column) = record { number = 37; row = row; column = column; tells = λ tell. refl; is = refl }
+verdicts (NoDraw at) = record { number = 37; row = at.row; column = at.column; tells = λ tell. refl; is = refl }
 
 -- the first refusal of two: nothing after a refusal counts
 pub refusal-stands : (refusal : Refusal) {u : Verdict} (v : Verdict) → says (refusal_says refusal) ≡ says u → says (refusal_says refusal) ≡ says (or_else u v)
@@ -123,7 +121,7 @@ pub marks_stay : (marks : List ℕ) (at : ℕ) (rows : List Row) → mark_part m
 marks_stay marks at rows e = record { read = e; lower = refl; kept = marks-none marks }
 
 module _ {fit : Bool} (step : Step) (supply : Supply) (before : Memory) (stack : Stack) where
-  pub unfit-done : fit ≡ false → DoneWhere fit step supply before stack (record { answer = DoesNotFit; stack = stack }) before
+  pub unfit-done : fit ≡ false → DoneWhere fit step supply before stack (Err error.DoesNotFit) before
   unfit-done f = record {
     misfit = λ _. (refl, refl, refl);
     answer = λ t. clash t f;
@@ -138,7 +136,7 @@ module _ {fit : Bool} (step : Step) (supply : Supply) (before : Memory) (stack :
         → take last_slot after.work.values ≡ take last_slot before.work.values → take last_slot after.work.labels ≡ take last_slot before.work.labels
         → take last_marks after.marks ≡ take last_marks before.marks
         → ((number row column : ℕ) → refusal_says refusal ≡ refused number row column → leaves_rows step number ≡ false → after ≡ before)
-        → DoneWhere fit step supply before stack (record { answer = Refused refusal; stack = stack }) after
+        → DoneWhere fit step supply before stack (Err (error.Refused refusal)) after
     refused-done refusal after v k values labels marks same = record {
       misfit = λ f. clash t f;
       answer = λ _. ap says (sym v);
@@ -154,7 +152,7 @@ module _ {fit : Bool} (step : Step) (supply : Supply) (before : Memory) (stack :
     }
 
     pub unchanged-done : (refusal : Refusal) → verdict step supply (stack_in before stack) ≡ refusal_says refusal
-        → DoneWhere fit step supply before stack (record { answer = Refused refusal; stack = stack }) before
+        → DoneWhere fit step supply before stack (Err (error.Refused refusal)) before
     unchanged-done refusal v = refused-done refusal before v (all_none before) refl refl refl (λ _ _ _ _ _. refl)
 
     -- a table of so many rows and columns whose cells and marks stand in a slot, with nothing changed below it
@@ -165,7 +163,7 @@ module _ {fit : Bool} (step : Step) (supply : Supply) (before : Memory) (stack :
         → columns ≤ 8 → count ≤ 256 → count ≡ length rows → Each (Wide columns) rows
         → at ≡ slot index → RowsAt at rows before.work after.work
         → marks ≡ mark_slot index → MarksAt marks rows before.marks after.marks
-        → DoneWhere fit step supply before stack (record { answer = Made; stack = with_table stack index columns count }) after
+        → DoneWhere fit step supply before stack (Ok (with_table stack index columns count)) after
     made-done index columns count rows after r mark-room allowed low depth made few-columns few-rows counted wide place stand mark-place marks =
         let there : stack.depth - takes step ≡ index = omega arith in
         let cells = rw place at stand.read in
@@ -195,16 +193,15 @@ module _ {fit : Bool} (step : Step) (supply : Supply) (before : Memory) (stack :
         }
 
   -- an answer other than that the table is made, before anything has changed
-  pub answered-done : (answer : StepAnswer) {v : Verdict} → OneOf (1 ∷ 2 ∷ []) (tag_of the_type answer) → verdict step supply (stack_in before stack) ≡ v → step_says answer ≡ cond fit (says v) unfit
-      → DoneWhere fit step supply before stack (record { answer = answer; stack = stack }) before
-  answered-done Made k e said = absurd (miss (1 ∷ 2 ∷ []) 0 tt k)
-  answered-done (Refused refusal) {v} k e said = go fit refl said
+  pub answered-done : (wrong : StepError) {v : Verdict} → verdict step supply (stack_in before stack) ≡ v → error_says wrong ≡ cond fit (says v) unfit
+      → DoneWhere fit step supply before stack (Err wrong) before
+  answered-done (error.Refused refusal) {v} e said = go fit refl said
     where
-      go : (b : Bool) → fit ≡ b → says (refusal_says refusal) ≡ cond b (says v) unfit → DoneWhere fit step supply before stack (record { answer = Refused refusal; stack = stack }) before
+      go : (b : Bool) → fit ≡ b → says (refusal_says refusal) ≡ cond b (says v) unfit → DoneWhere fit step supply before stack (Err (error.Refused refusal)) before
       go true t said = unchanged-done t refusal (e ∙ sym (says_is said))
       go false f said = absurd (never-unfit (sym said))
-  answered-done DoesNotFit {v} k e said = go fit refl said
+  answered-done error.DoesNotFit {v} e said = go fit refl said
     where
-      go : (b : Bool) → fit ≡ b → unfit ≡ cond b (says v) unfit → DoneWhere fit step supply before stack (record { answer = DoesNotFit; stack = stack }) before
+      go : (b : Bool) → fit ≡ b → unfit ≡ cond b (says v) unfit → DoneWhere fit step supply before stack (Err error.DoesNotFit) before
       go true t said = absurd (never-unfit said)
       go false f said = unfit-done f

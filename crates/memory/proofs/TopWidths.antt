@@ -7,6 +7,8 @@ use native.Mathlib.Omega.{arith}
 use lib.Dec.{ltb}
 use lib.ListN.{get_or}
 use borrow.Author.Tests.{le-leb, le-ltb, lt-ltb, ltb-true, ltb-false}
+use Rattle.std.specs.Prelude.{Some, None, Ok, Err, ok_or}
+use Rattle.cells.specs.declared.DoesNotFit.{DoesNotFit}
 use Rattle.widths.specs.promises.Widths.{made_width}
 use Rattle.live_tables.specs.declared.LiveTable.{LiveTable}
 use Rattle.live_tables.specs.declared.Stack.{Stack}
@@ -44,10 +46,14 @@ module _ {values labels : ℕ} (stack : Stack) (r : Ready values labels stack) w
       either true h = r.columns _ (omega (arith, r.depth, ltb-true below stack.depth h))
       either false h = omega arith
 
+ok_or-cond : (b : Bool) (m : ℕ) (wrong : DoesNotFit) → ok_or (cond b (Some m) None) wrong ≡ cond b (Ok m) (Err wrong)
+ok_or-cond true m wrong = refl
+ok_or-cond false m wrong = refl
+
 -- what the code asks of the two widths is what is asked of the stack
 pub fit_is : (step : Step) (tables : List ℕ) (values labels : ℕ) (stack : Stack) {left right : LiveTable} → ready values labels stack ≡ true → enough_tables step stack.depth ≡ true
-    → left ≡ live_table stack 1 → right ≡ live_table stack 0 → made_width step tables left.columns right.columns ≡ fit step tables values labels stack
+    → left ≡ live_table stack 1 → right ≡ live_table stack 0 → ok_or (made_width step tables left.columns right.columns) (record {}) ≡ fit step tables values labels stack
 fit_is step tables values labels stack e f l r =
     let ok = is-ready values labels stack e in
     let two = two-looked-at step tables (widths_to stack stack.depth) in
-    rw (l, r, le-leb _ 8 (live-narrow stack ok 1), le-leb _ 8 (live-narrow stack ok 0), e, f, two.0, two.1, live-width stack ok 0, live-width stack ok 1)
+    rw (l, r, le-leb _ 8 (live-narrow stack ok 1), le-leb _ 8 (live-narrow stack ok 0), e, f, two.0, two.1, live-width stack ok 0, live-width stack ok 1) (ok_or-cond _ _ (record {}))

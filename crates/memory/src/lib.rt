@@ -1,35 +1,89 @@
 // Work memory: its live tables, whether a step fits them, and what a step answers.
 #![tactic(auto)]
 
+ghost use Rattle.std.specs.Prelude.{◌≡◌};
+ghost use Rattle.memory.specs.Refusals.{refusal_tells};
+ghost use Rattle.memory.specs.declared.StepError.TheVariants.{Refused, DoesNotFit};
+
 mod fitting;
 
+use cells::{At, DoesNotFit};
 pub use fitting::fit;
 pub use live_tables::{
     LAST_MARKS, LAST_SLOT, LiveTable, MARK_ROOM, MARK_SLOT, ROOM, SLOT, Stack, live_table,
     no_tables, ready, with_table,
 };
 
-// What a step refuses because of the state, with its row and column: 31, 32, 33, 34, whose place is fixed, and 37.
-#[derive(Clone, Copy)]
+// What a step refuses because of the state: 31, 32 and 33 at a cell, 34, whose place is fixed, and 37 at a cell.
+#[derive(Clone, Copy, PartialEq, Eq, Debug)]
 pub enum Refusal {
-    NotClear(usize, usize),
-    Forbidden(usize, usize),
-    OperandNotClear(usize, usize),
+    NotClear(At),
+    Forbidden(At),
+    OperandNotClear(At),
     TooMany,
-    NoDraw(usize, usize),
+    NoDraw(At),
 }
 
-// What a step answers: it made its table, it is refused, or its arguments do not fit.
-#[derive(Clone, Copy)]
-pub enum StepAnswer {
-    Made,
+// Why a step makes no table: it is refused, or its arguments do not fit.
+#[derive(Clone, Copy, PartialEq, Eq, Debug)]
+pub enum StepError {
     Refused(Refusal),
     DoesNotFit,
 }
 
-// A step's answer, and the stack after it.
-#[derive(Clone, Copy)]
-pub struct Stepped {
-    pub answer: StepAnswer,
-    pub stack: Stack,
+impl From<Refusal> for StepError {
+    ghost from_gives = { λ refusal error. error ≡ Refused refusal };
+
+    fn from(refusal: Refusal) -> StepError {
+        StepError::Refused(refusal)
+    }
+}
+
+impl From<DoesNotFit> for StepError {
+    ghost from_gives = { λ wrong error. error ≡ DoesNotFit };
+
+    fn from(_wrong: DoesNotFit) -> StepError {
+        StepError::DoesNotFit
+    }
+}
+
+impl Refusal {
+    // Its number in documents 01 and 02.
+    pub fn number(self) -> u32
+        ensures { result ≡ refusal_tells (λ number row column. number) self }
+    {
+        match self {
+            Refusal::NotClear(_) => 31,
+            Refusal::Forbidden(_) => 32,
+            Refusal::OperandNotClear(_) => 33,
+            Refusal::TooMany => 34,
+            Refusal::NoDraw(_) => 37,
+        }
+    }
+
+    // The row that it tells, of so many rows for 34.
+    pub fn row(self) -> usize
+        ensures { result ≡ refusal_tells (λ number row column. row) self }
+    {
+        match self {
+            Refusal::NotClear(at)
+            | Refusal::Forbidden(at)
+            | Refusal::OperandNotClear(at)
+            | Refusal::NoDraw(at) => at.row,
+            Refusal::TooMany => 256,
+        }
+    }
+
+    // The column that it tells.
+    pub fn column(self) -> usize
+        ensures { result ≡ refusal_tells (λ number row column. column) self }
+    {
+        match self {
+            Refusal::NotClear(at)
+            | Refusal::Forbidden(at)
+            | Refusal::OperandNotClear(at)
+            | Refusal::NoDraw(at) => at.column,
+            Refusal::TooMany => 0,
+        }
+    }
 }

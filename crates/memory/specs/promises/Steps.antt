@@ -1,15 +1,13 @@
 -- What every step over work memory promises.
-use Rattle.std.specs.Prelude.{ℕ, ◌-◌, ◌≤◌, ◌≡◌, Bool, true, false, cond, ◌&&◌, List, ◌∷◌, map, eqb, leb, length, drop, take}
+use Rattle.std.specs.Prelude.{ℕ, ◌-◌, ◌≤◌, ◌≡◌, Bool, true, false, cond, ◌&&◌, List, ◌∷◌, map, eqb, leb, length, drop, take, Result, Ok, Err}
+use Rattle.cells.specs.declared.DoesNotFit.{DoesNotFit}
 use Rattle.cells.specs.promises.Search.{Reply, says, unfit}
 use Rattle.cells.specs.promises.Work.{Work, Memory, mark_room, AllKept}
-use Rattle.widths.specs.declared.Width.{Width}
-use Rattle.widths.specs.declared.Width.TheVariants.{Columns, Misplaced}
 use Rattle.memory.specs.declared.Refusal.{Refusal}
 use Rattle.memory.specs.Refusals.{refusal_tells}
 use Rattle.live_tables.specs.declared.Stack.{Stack}
-use Rattle.memory.specs.declared.StepAnswer.{StepAnswer}
-use Rattle.memory.specs.declared.StepAnswer.TheVariants.{Made, Refused, DoesNotFit}
-use Rattle.memory.specs.declared.Stepped.{Stepped}
+use Rattle.memory.specs.declared.StepError.{StepError}
+use Rattle.memory.specs.declared.StepError.TheVariants as error
 use Rattle.memory.specs.promises.Stack.{ready, last_slot, last_marks, stack_in, widths_to, with_table}
 use Rattle.plan.specs.Numbers.{kind_of}
 use Rattle.plan.specs.Steps.{takes, check, make, too_many}
@@ -23,11 +21,20 @@ use Rattle.plan.specs.declared.Step.{Step}
 abbrev pub refusal_says : Refusal → Verdict
 refusal_says refusal = refusal_tells refused refusal
 
--- and what each answer says
-abbrev pub step_says : StepAnswer → Reply
-step_says Made = says fine
-step_says (Refused refusal) = says (refusal_says refusal)
-step_says DoesNotFit = unfit
+-- why a step makes no table
+abbrev pub error_says : StepError → Reply
+error_says (error.Refused refusal) = says (refusal_says refusal)
+error_says error.DoesNotFit = unfit
+
+-- and what the answer of a step, or of a test that it makes, says
+abbrev pub step_says : {A : Type 0} → Result A StepError → Reply
+step_says (Ok made) = says fine
+step_says (Err wrong) = error_says wrong
+
+-- the stack after a step: the one that it made, or the one that it had
+abbrev pub stack_after : Stack → Result Stack StepError → Stack
+stack_after stack (Ok made) = made
+stack_after stack (Err wrong) = stack
 
 -- what a step refuses on a stack: by the labels, and then by the rows made
 abbrev pub verdict : Step → Supply → List Table → Verdict
@@ -40,9 +47,9 @@ fits step tables values labels stack =
     ready values labels stack && enough_tables step stack.depth && placed step tables (widths_to stack stack.depth)
 
 -- the columns that it then makes
-abbrev pub fit : Step → List ℕ → ℕ → ℕ → Stack → Width
+abbrev pub fit : Step → List ℕ → ℕ → ℕ → Stack → Result ℕ DoesNotFit
 fit step tables values labels stack =
-    cond (fits step tables values labels stack) (Columns (made_columns step tables (widths_to stack stack.depth))) Misplaced
+    cond (fits step tables values labels stack) (Ok (made_columns step tables (widths_to stack stack.depth))) (Err (record {}))
 
 abbrev pub widths_of : List Table → List ℕ
 widths_of tables = map (λ table. table.columns) tables
@@ -59,18 +66,18 @@ stack_made step made stack = with_table stack (stack.depth - takes step) made.co
 
 -- A step has made its table: the stack is fixed as a whole, and so are all its tables in memory; it still fits. The other elements that a run
 -- uses are free (`free`, in `step`).
-pub record TableMade (step : Step) (supply : Supply) (before : Memory) (stack : Stack) (done : Stepped) (after : Memory) : Type 0 where
-  pub stack_is : done.stack ≡ stack_made step (make step supply (stack_in before stack)) stack
-  pub tables-are : stack_in after done.stack ≡ make step supply (stack_in before stack) ∷ drop (takes step) (stack_in before stack)
-  pub still : ready (length after.work.values) (length after.work.labels) done.stack ≡ true
+pub record TableMade (step : Step) (supply : Supply) (before : Memory) (stack : Stack) (done : Result Stack StepError) (after : Memory) : Type 0 where
+  pub stack_is : stack_after stack done ≡ stack_made step (make step supply (stack_in before stack)) stack
+  pub tables-are : stack_in after (stack_after stack done) ≡ make step supply (stack_in before stack) ∷ drop (takes step) (stack_in before stack)
+  pub still : ready (length after.work.values) (length after.work.labels) (stack_after stack done) ≡ true
 
 -- JOIN makes its rows in the last slot, and may say 34 when some are there.
 abbrev pub leaves_rows : Step → ℕ → Bool
 leaves_rows step number = eqb (kind_of step) 3 && eqb number 34
 
 -- A step is refused: the stack is as it was, and so is work memory, but for the last slot after JOIN's 34, in which no live table stands.
-pub record Unmade (step : Step) (number : ℕ) (before : Memory) (stack : Stack) (done : Stepped) (after : Memory) : Type 0 where
-  pub stack_same : done.stack ≡ stack
+pub record Unmade (step : Step) (number : ℕ) (before : Memory) (stack : Stack) (done : Result Stack StepError) (after : Memory) : Type 0 where
+  pub stack_same : stack_after stack done ≡ stack
   pub all_same : leaves_rows step number ≡ false → after ≡ before
   pub values-below : take last_slot after.work.values ≡ take last_slot before.work.values
   pub labels-below : take last_slot after.work.labels ≡ take last_slot before.work.labels
@@ -78,17 +85,17 @@ pub record Unmade (step : Step) (number : ℕ) (before : Memory) (stack : Stack)
 
 -- A step handed work memory and a stack, where `fit` says whether these fit: its answer, the stack and work memory after it. `supply` is what is
 -- left for it of the container's tables and the draws.
-pub record DoneWhere (fit : Bool) (step : Step) (supply : Supply) (before : Memory) (stack : Stack) (done : Stepped) (after : Memory) : Type 0 where
+pub record DoneWhere (fit : Bool) (step : Step) (supply : Supply) (before : Memory) (stack : Stack) (done : Result Stack StepError) (after : Memory) : Type 0 where
   -- arguments that do not fit change nothing
-  pub misfit : fit ≡ false → (step_says done.answer ≡ unfit) × (done.stack ≡ stack) × (after ≡ before)
+  pub misfit : fit ≡ false → (step_says done ≡ unfit) × (stack_after stack done ≡ stack) × (after ≡ before)
   -- the answer is the meaning's
-  pub answer : fit ≡ true → step_says done.answer ≡ says (verdict step supply (stack_in before stack))
+  pub answer : fit ≡ true → step_says done ≡ says (verdict step supply (stack_in before stack))
   pub unmade : fit ≡ true → (number row column : ℕ) → verdict step supply (stack_in before stack) ≡ refused number row column
       → Unmade step number before stack done after
   pub made : fit ≡ true → verdict step supply (stack_in before stack) ≡ fine → TableMade step supply before stack done after
   pub kept : AllKept before after
 
-abbrev pub Done : Step → Supply → Memory → Stack → Stepped → Memory → Type 0
+abbrev pub Done : Step → Supply → Memory → Stack → Result Stack StepError → Memory → Type 0
 Done step supply before stack = DoneWhere (fits_in step supply before stack) step supply before stack
 
 -- A step that moves no row is not lent the marks: whatever they are, where they are enough, they stay as they are.
