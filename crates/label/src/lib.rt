@@ -5,5 +5,5 @@
 pub use label_composition::compose;
 pub use label_discharge::{discharge_aggregate, discharge_noise, discharge_transform};
 pub use label_words::{
-    Highest, LabelAnswer, highest_stage, stage_count, well_formed, well_formed_from,
+    Highest, LabelRefusal, highest_stage, stage_count, well_formed, well_formed_from,
 };

@@ -6,16 +6,16 @@ ghost use Rattle.label_words.specs.Word.{bit_at, field_at};
 ghost use Rattle.label_composition.specs.Composition as spec;
 
 use super::packing::pack;
-use label_words::{LabelAnswer, bit, field, well_formed};
+use label_words::{LabelRefusal, bit, field, well_formed};
 
 // The label of what comes from two labelled cells, or that one of the words is no label.
-pub fn compose(left: u32, right: u32) -> LabelAnswer
+pub fn compose(left: u32, right: u32) -> Result<u32, LabelRefusal>
     ensures { label_says result ≡ spec.compose_answer left right }
 {
     if well_formed(left) & well_formed(right) {
-        LabelAnswer::Label(compose_words(left, right))
+        Ok(compose_words(left, right))
     } else {
-        LabelAnswer::IllFormed
+        Err(LabelRefusal::IllFormed)
     }
 }
 

@@ -4,42 +4,42 @@ ghost use Rattle.label_words.specs.Answers.{label_says, label, forbidden};
 ghost use Rattle.label_words.specs.Word.{has_h, has_t, has_a};
 ghost use Rattle.label_discharge.specs.Discharge as spec;
 
-use label_words::{LabelAnswer, bit, field, well_formed};
+use label_words::{LabelRefusal, bit, field, well_formed};
 
 // The label after an operation of level T: 0 add, 1 sub, 2 cut (by `digits`), 3 band.
-pub fn discharge_transform(word: u32, operation: u32, digits: u32) -> LabelAnswer
+pub fn discharge_transform(word: u32, operation: u32, digits: u32) -> Result<u32, LabelRefusal>
     ensures { label_says result ≡ spec.transform_answer word operation digits }
 {
     if !well_formed(word) {
-        return LabelAnswer::IllFormed;
+        return Err(LabelRefusal::IllFormed);
     }
     if !transform_exists(operation, digits) {
-        return LabelAnswer::NoOperation;
+        return Err(LabelRefusal::NoOperation);
     }
     at_t(word, allows_transform(word, operation, digits))
 }
 
 // The label after an operation of level A, 0 count, 1 sum, 2 min, 3 max, 4 avg, over a group of so many sheets.
-pub fn discharge_aggregate(word: u32, operation: u32, sheets: u32) -> LabelAnswer
+pub fn discharge_aggregate(word: u32, operation: u32, sheets: u32) -> Result<u32, LabelRefusal>
     ensures { label_says result ≡ spec.aggregate_answer word operation sheets }
 {
     if !well_formed(word) {
-        return LabelAnswer::IllFormed;
+        return Err(LabelRefusal::IllFormed);
     }
     if 5 <= operation {
-        return LabelAnswer::NoOperation;
+        return Err(LabelRefusal::NoOperation);
     }
     at_a(word, allows_aggregate(word, operation, sheets))
 }
 
 // The rule of level T: forbidden under stage H, and stage T goes if it allows the operation.
-fn at_t(word: u32, allowed: bool) -> LabelAnswer
+fn at_t(word: u32, allowed: bool) -> Result<u32, LabelRefusal>
     ensures { label_says result ≡ cond (has_h word) forbidden (label (cond (has_t word && allowed) (spec.without_t word) word)) }
 {
     if bit(word, 31) {
-        return LabelAnswer::Forbidden;
+        return Err(LabelRefusal::Forbidden);
     }
-    LabelAnswer::Label(if bit(word, 30) & allowed {
+    Ok(if bit(word, 30) & allowed {
         without_t(word)
     } else {
         word
@@ -47,13 +47,13 @@ fn at_t(word: u32, allowed: bool) -> LabelAnswer
 }
 
 // The rule of level A: forbidden under stage H or T, and stage A goes if it allows the operation.
-fn at_a(word: u32, allowed: bool) -> LabelAnswer
+fn at_a(word: u32, allowed: bool) -> Result<u32, LabelRefusal>
     ensures { label_says result ≡ cond (has_h word || has_t word) forbidden (label (cond (has_a word && allowed) (spec.without_a word) word)) }
 {
     if bit(word, 31) | bit(word, 30) {
-        return LabelAnswer::Forbidden;
+        return Err(LabelRefusal::Forbidden);
     }
-    LabelAnswer::Label(if bit(word, 29) & allowed {
+    Ok(if bit(word, 29) & allowed {
         without_a(word)
     } else {
         word

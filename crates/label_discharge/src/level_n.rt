@@ -4,27 +4,27 @@ ghost use Rattle.label_words.specs.Answers.{label_says, label, forbidden};
 ghost use Rattle.label_words.specs.Word.{has_h, has_t, has_a, has_n};
 ghost use Rattle.label_discharge.specs.Discharge as spec;
 
-use label_words::{LabelAnswer, bit, well_formed};
+use label_words::{LabelRefusal, bit, well_formed};
 
 // The label after noise.
-pub fn discharge_noise(word: u32) -> LabelAnswer
+pub fn discharge_noise(word: u32) -> Result<u32, LabelRefusal>
     ensures { label_says result ≡ spec.noise_answer word }
 {
     if !well_formed(word) {
-        return LabelAnswer::IllFormed;
+        return Err(LabelRefusal::IllFormed);
     }
     at_n(word, bit(word, 23))
 }
 
 // The rule of level N: forbidden under stage H, T or A, and stage N goes if it allows noise.
-fn at_n(word: u32, allowed: bool) -> LabelAnswer
+fn at_n(word: u32, allowed: bool) -> Result<u32, LabelRefusal>
     ensures { label_says result ≡ cond (has_h word || has_t word || has_a word) forbidden
         (label (cond (has_n word && allowed) (spec.without_n word) word)) }
 {
     if bit(word, 31) | bit(word, 30) | bit(word, 29) {
-        return LabelAnswer::Forbidden;
+        return Err(LabelRefusal::Forbidden);
     }
-    LabelAnswer::Label(if bit(word, 28) & allowed {
+    Ok(if bit(word, 28) & allowed {
         without_n(word)
     } else {
         word

@@ -2,7 +2,7 @@
 // the inputs and the answer, labels in hexadecimal.
 #![tactic(auto)]
 
-use label::{Highest, LabelAnswer};
+use label::{Highest, LabelRefusal};
 use std::io;
 
 fn main(rt: HostRuntime) -> io::Result<()> {
@@ -222,11 +222,11 @@ fn noise(rt: &impl Print, word: u32) -> io::Result<()> {
     answer(rt, label::discharge_noise(word))
 }
 
-fn answer(rt: &impl Print, answer: LabelAnswer) -> io::Result<()> {
+fn answer(rt: &impl Print, answer: Result<u32, LabelRefusal>) -> io::Result<()> {
     match answer {
-        LabelAnswer::Label(left) => println!(rt; " gives {left:08x}"),
-        LabelAnswer::Forbidden => println!(rt; " gives forbidden"),
-        LabelAnswer::IllFormed => println!(rt; " gives 15 at 0"),
-        LabelAnswer::NoOperation => println!(rt; " gives 17 at 0"),
+        Ok(left) => println!(rt; " gives {left:08x}"),
+        Err(LabelRefusal::Forbidden) => println!(rt; " gives forbidden"),
+        Err(LabelRefusal::IllFormed) => println!(rt; " gives 15 at 0"),
+        Err(LabelRefusal::NoOperation) => println!(rt; " gives 17 at 0"),
     }
 }

@@ -8,7 +8,7 @@ pub use fields::{bit, field};
 pub use test::{highest_stage, stage_count, well_formed, well_formed_from};
 
 // The highest stage present.
-#[derive(Clone, Copy)]
+#[derive(Clone, Copy, Debug, PartialEq, Eq)]
 pub enum Highest {
     H,
     T,
@@ -17,11 +17,10 @@ pub enum Highest {
     Clear,
 }
 
-// What composition and discharge answer: a label; the operation is forbidden on the label; the word is
-// no label (15); the operation does not exist (17).
-#[derive(Clone, Copy)]
-pub enum LabelAnswer {
-    Label(u32),
+// Why composition or discharge makes no label: the operation is forbidden on the label; the word is no
+// label (15); the operation does not exist (17).
+#[derive(Clone, Copy, Debug, PartialEq, Eq)]
+pub enum LabelRefusal {
     Forbidden,
     IllFormed,
     NoOperation,
