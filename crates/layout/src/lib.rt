@@ -47,13 +47,6 @@ pub fn part_length(container: &[u8], index: usize) -> u32
     in_pair(container, index, 4)
 }
 
-// The smaller of two numbers.
-fn smaller(a: usize, b: usize) -> usize
-    ensures { result ≡ min a b }
-{
-    if a < b { a } else { b }
-}
-
 // Whether so many bytes hold the pair of a part.
 fn has_pair(len: usize, index: usize) -> bool
     ensures { result ≡ leb (pair_at index + 8) len }
@@ -73,7 +66,7 @@ pub fn part(container: &[u8], index: usize) -> &[u8]
     if !has_pair(len, index) {
         return &container[len..];
     }
-    let from = smaller(part_offset(container, index) as usize, len);
-    let to = from + smaller(part_length(container, index) as usize, len - from);
+    let from = (part_offset(container, index) as usize).min(len);
+    let to = from + (part_length(container, index) as usize).min(len - from);
     &container[from..to]
 }

@@ -4,17 +4,18 @@
 ghost use Rattle.std.specs.Prelude.{◌≡◌};
 ghost use Rattle.directory.specs.Directory.{check_directory};
 ghost use Rattle.input.specs.Verdict.{and_then};
-ghost use Rattle.input.specs.promises.Checks.{input_says};
+ghost use Rattle.input.specs.Answers.{input_says};
 ghost use Rattle.layout.specs.Layout.{part_count};
 ghost use Rattle.layout_check.specs.Checks.{check_container};
 
-use directory::{DirectoryCheck, check_directory};
-use input::{InputCheck, InputRefusal};
+use directory::check_directory;
+use input::InputRefusal;
 use layout::rule_year;
 use little_endian::byte;
 
 // 11: the container's length, its rule year, its part count, and the room for its directory.
-fn check_container(container: &[u8]) -> InputCheck
+#[tactic(auto, unfolding(crate::specs::Checks::check_container))]
+fn check_container(container: &[u8]) -> Result<(), InputRefusal>
     ensures { input_says result ≡ check_container container.now }
 {
     let len = container.len();
@@ -25,22 +26,18 @@ fn check_container(container: &[u8]) -> InputCheck
         | !((2 <= count) & (count <= 9))
         | (len < 2 + 8 * count)
     {
-        InputCheck::Refused(InputRefusal::Container)
+        Err(InputRefusal::Container)
     } else {
-        InputCheck::Accepted
+        Ok(())
     }
 }
 
 // 11, then 12.
-pub fn check_layout(container: &[u8]) -> InputCheck
+pub fn check_layout(container: &[u8]) -> Result<(), InputRefusal>
     ensures { input_says result ≡ and_then (check_container container.now) (check_directory 12 (part_count container.now) container.now) }
 {
-    let found = check_container(container);
-    let InputCheck::Accepted = found else {
-        return found;
-    };
-    match check_directory(container, byte(container, 0) as u16) {
-        DirectoryCheck::Right => InputCheck::Accepted,
-        DirectoryCheck::Wrong(place) => InputCheck::Refused(InputRefusal::Directory(place)),
-    }
+    check_container(container)?;
+    check_directory(container, byte(container, 0) as u16).map_err(|wrong| InputRefusal::Directory(
+        wrong.place,
+    ))
 }
