@@ -6,7 +6,7 @@ use mathlib.Core.List.{List}
 use native.Mathlib.Nat.{sub-zero}
 use native.Mathlib.Numerals.{add-one}
 use native.Mathlib.Omega.{arith}
-use Rattle.input.specs.Verdict.{accepted, rejected, and_then, reject_if}
+use Rattle.input.specs.Verdict.{rejected, and_then, reject_if}
 use Rattle.label_words.specs.WellFormed.{well_formed_from}
 use Rattle.table_check.specs.Checks.{check_cells}
 use Rattle.table_part.specs.TablePart.{value_place, label_place, value_of, label_of}
@@ -37,6 +37,3 @@ module _ {least : ℕ} {part : List ℕ} {at count cell : ℕ} (p : Cells least 
 
   pub keep : cell < count → in_range (value_of part cell) ≡ true → well_formed_from least (label_of part cell) ≡ true → Cells least part at count (cell + 1)
   keep h v l = record { done = omega arith; left = rw (add-one cell, cell-left h, v, l) }
-
-  pub finish : count ≤ cell → accepted ≡ check_cells least part at 0 count
-  finish h = let z : count - cell ≡ 0 = omega arith in rw (p.left, z)

@@ -1,6 +1,6 @@
 // A table part's header, its cells, and the checks of both.
 ghost use Rattle.std.specs.Prelude.{◌≡◌, ◌+◌, ◌*◌, ◌^◌, ◌≤◌, ◌<◌, length};
-ghost use Rattle.input.specs.promises.Checks.{input_says};
+ghost use Rattle.input.specs.Answers.{input_says};
 ghost use Rattle.label_words.specs.WellFormed.{well_formed_from};
 ghost use Rattle.little_endian.specs.Bytes.{number_at};
 ghost use Rattle.table_check.specs.Checks.{check_cells, check_table};
@@ -8,12 +8,13 @@ ghost use Rattle.table_part.specs.TablePart.{header_fits};
 ghost use Rattle.value.specs.Pattern.{signed_of};
 ghost use Rattle.value.specs.Range.{in_range};
 
-use input::{InputCheck, InputRefusal};
+use input::InputRefusal;
 use little_endian::{eight, four};
 use sheet_check::sheets_fit;
 use table_part::{cell_count, shape_of};
 
 // Whether a table's header and length are as they should be.
+#[tactic(auto, unfolding(table_part::specs::TablePart::header_fits, table_part::specs::promises::Shape::shape_of))]
 fn header_fits(table: &[u8]) -> bool
     ensures { result ≡ header_fits table.now }
 {
@@ -26,58 +27,50 @@ fn header_fits(table: &[u8]) -> bool
         & (len == 4 + 12 * cell_count(table) as usize)
 }
 
-// Whether the value at a place is in range. Of a part with just its bytes no place is tested again.
-fn value_fits(table: &[u8], place: usize) -> bool
-    requires { place + 8 ≤ length table.now }
-    ensures { result ≡ in_range (signed_of (number_at table.now place 8)) }
+// Whether a value is in range, of the eight bytes that have it.
+fn value_fits(field: &[u8]) -> bool
+    ensures { result ≡ in_range (signed_of (number_at field.now 0 8)) }
 {
-    let field = &table[place..place + 8];
     value::range::in_range(value::pattern::signed(eight(field, 0)))
 }
 
-// Whether the label at a place is well-formed.
-fn label_fits(table: &[u8], place: usize, least: u16) -> bool
-    requires { place + 4 ≤ length table.now }
-    ensures { result ≡ well_formed_from least (number_at table.now place 4) }
+// Whether a label is well-formed, of the four bytes that have it.
+fn label_fits(field: &[u8], least: u16) -> bool
+    ensures { result ≡ well_formed_from least (number_at field.now 0 4) }
 {
-    let field = &table[place..place + 4];
     label::well_formed_from(four(field, 0), least)
 }
 
 // 14 and 15: the first of so many cells whose value or label is wrong. The part begins at `at`.
-fn check_cells(table: &[u8], at: usize, count: usize, least: u16) -> InputCheck
+fn check_cells(table: &[u8], at: usize, count: usize, least: u16) -> Result<(), InputRefusal>
     requires { (at + length table.now < 2 ^ 64) × (length table.now ≡ 4 + 12 * count) }
     ensures { input_says result ≡ check_cells least table.now at 0 count }
 {
-    let mut cell = 0;
-    while cell < count {
+    for cell in 0..count {
         let value_place = 4 + 12 * cell;
-        if !value_fits(table, value_place) {
-            return InputCheck::Refused(InputRefusal::Value(at + value_place));
-        }
         let label_place = value_place + 8;
-        if !label_fits(table, label_place, least) {
-            return InputCheck::Refused(InputRefusal::Label(at + label_place));
+        if !value_fits(&table[value_place..label_place]) {
+            return Err(InputRefusal::Value(at + value_place));
         }
-        cell += 1;
+        if !label_fits(&table[label_place..label_place + 4], least) {
+            return Err(InputRefusal::Label(at + label_place));
+        }
     }
-    InputCheck::Accepted
+    Ok(())
 }
 
 // 13, 14, 15 and 20 of a table part that begins at `at`, where no group minimum may be below `least`.
-pub fn check_table(table: &[u8], at: u32, least: u16) -> InputCheck
+#[tactic(auto, unfolding(crate::specs::Checks::check_table))]
+pub fn check_table(table: &[u8], at: u32, least: u16) -> Result<(), InputRefusal>
     ensures { input_says result ≡ check_table least table.now at }
 {
     let place = at as usize;
     if !header_fits(table) {
-        return InputCheck::Refused(InputRefusal::Table(place));
+        return Err(InputRefusal::Table(place));
     }
-    let found = check_cells(table, place, cell_count(table) as usize, least);
-    let InputCheck::Accepted = found else {
-        return found;
-    };
+    check_cells(table, place, cell_count(table) as usize, least)?;
     if !sheets_fit(table) {
-        return InputCheck::Refused(InputRefusal::Sheets(place));
+        return Err(InputRefusal::Sheets(place));
     }
-    InputCheck::Accepted
+    Ok(())
 }

@@ -1,10 +1,6 @@
 -- `table_check::checking::check_cells` meets its contract. Assumes nothing.
-use Prim.Native.Nat.{◌-◌}
 use Rattle.table_check.proofs.CellsLeft.{Cells}
 use Rattle.table_check.proofs.checking.check_cells.Given as goal
 
 abbrev pub invariant-loop-cell : goal.invariant-loop-cell
 invariant-loop-cell l = Cells l.least l.table l.at l.count l.cell
-
-abbrev pub decreases-loop-cell : goal.decreases-loop-cell
-decreases-loop-cell l = l.count - l.cell
