@@ -12,12 +12,10 @@ pub fn key_hash(values: &[i64], place: usize, columns: usize, keys: u32) -> u64
     ensures { result ≡ spec.hash_at keys values.now place columns }
 {
     let mut hash = 0;
-    let mut column = 0;
-    while column < columns {
+    for column in 0..columns {
         if (keys >> column) % 2 == 1 {
             hash = with_key(hash, values[place + column]);
         }
-        column += 1;
     }
     hash
 }

@@ -25,8 +25,5 @@ pub fn find(values: &[i64], at: usize, rows: usize, columns: usize, keys: u32) -
     }
     let first = leader::leaders(values, at, rows, columns, keys);
     let next = leader::chain(&first, rows);
-    Chains {
-        first: first,
-        next: next,
-    }
+    Chains { first, next }
 }

@@ -1,8 +1,9 @@
 -- Rows with the same keys: for each row the first one and the next one.
-use Rattle.std.specs.Prelude.{ℕ, suc, ◌+◌, ◌-◌, ◌*◌, ◌≤◌, ◌<◌, ◌≡◌, Bool, true, false, cond, List, [], ◌∷◌, ◌++◌, ℤ, length, get_or, take, drop, replicate}
+use Rattle.std.specs.Prelude.{ℕ, suc, ◌+◌, ◌-◌, ◌*◌, ◌≤◌, ◌<◌, ◌≡◌, Bool, true, false, cond, List, [], ◌∷◌, ◌++◌, map, ℤ, length, get_or, take, drop, replicate}
 use Rattle.cells.specs.promises.Cells.{cells_of, row_from, table_rows}
 use Rattle.cells.specs.promises.Search.{table_within}
 use Rattle.chains.specs.declared.Chains.{Chains}
+use Rattle.chains.specs.declared.leader.Lead.{Lead}
 use Rattle.plan.specs.Group.{same_keys}
 use Rattle.plan.specs.Table.{Cell, Row}
 
@@ -23,6 +24,13 @@ first_of keys columns row memory at = first_same keys columns (row_from columns 
 abbrev pub leaders_after : ℕ → ℕ → List Row → List Row → List ℕ
 leaders_after keys columns earlier [] = []
 leaders_after keys columns earlier (row ∷ rest) = first_same keys columns row earlier ∷ leaders_after keys columns (earlier ++ (row ∷ [])) rest
+
+-- the rows of a list of rows that lead groups, and their hash values
+abbrev pub rows_of : List Lead → List ℕ
+rows_of leads = map (λ lead. lead.row) leads
+
+abbrev pub hashes_of : List Lead → List ℕ
+hashes_of leads = map (λ lead. lead.hash) leads
 
 -- a table that lies within a slice of this length
 pub record TableInside (at rows columns length : ℕ) : Type 0 where

@@ -1,11 +1,7 @@
 -- `chains::hash::key_hash` meets its contract. The loop: the hash value is that of the keys among the columns passed. Assumes nothing.
-use Prim.Native.Nat.{◌-◌, ◌≤◌}
 use mathlib.Core.Path.{◌≡◌}
 use Rattle.chains.specs.promises.Hash.{hash_at}
 use Rattle.chains.proofs.hash.key_hash.Given as goal
 
 abbrev pub invariant-loop-column : goal.invariant-loop-column
-invariant-loop-column l = (l.column ≤ l.columns) × (l.hash ≡ hash_at l.keys l.values l.place l.column)
-
-abbrev pub decreases-loop-column : goal.decreases-loop-column
-decreases-loop-column l = l.columns - l.column
+invariant-loop-column l = l.hash ≡ hash_at l.keys l.values l.place l.column

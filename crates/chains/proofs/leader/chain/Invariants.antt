@@ -7,6 +7,3 @@ use Rattle.chains.proofs.leader.chain.Given as goal
 
 abbrev pub invariant-loop-row : goal.invariant-loop-row
 invariant-loop-row l = Chaining l.rows l.leaders l.next l.ahead l.row × (drop l.rows l.next ≡ replicate (256 - l.rows) 0)
-
-abbrev pub decreases-loop-row : goal.decreases-loop-row
-decreases-loop-row l = l.row

@@ -1,6 +1,6 @@
 -- `chains::leader::same_keys` meets its contract. The loop: the keys among the columns passed are the same. Assumes nothing.
 use Prim.Native.Nat.{ℕ, ◌+◌, ◌-◌, ◌≤◌}
-use mathlib.Core.Path.{ap₂, ◌≡◌, refl, sym, ◌∙◌}
+use mathlib.Core.Path.{ap₂, ◌≡◌, sym, ◌∙◌}
 use mathlib.Core.Bool.{Bool, true}
 use mathlib.Core.List.{List}
 use native.Mathlib.Omega.{arith}
@@ -14,34 +14,7 @@ use Rattle.comparison.specs.Comparison.{same}
 use Rattle.chains.proofs.Reading.{key-compared, column-passed, differ, value_read}
 use Rattle.value.proofs.Machine.{back_is}
 use Rattle.chains.proofs.leader.same_keys.Goals as goal
-use Rattle.chains.proofs.leader.same_keys.Goals.{In-loop-column, then-keys-column-eq1+else-not-same, else-keys-column-eq1}
-
-pub loop-column-init : goal.loop-column-init
-loop-column-init c = (omega arith, λ labels p q. refl)
-
-pub overflow_cast-column : goal.overflow_cast-column
-overflow_cast-column c = omega arith
-
-pub overflow_shr-keys : goal.overflow_shr-keys
-overflow_shr-keys c = omega arith
-
-pub overflow_add-first : goal.overflow_add-first
-overflow_add-first c = omega arith
-
-pub offset_bounds-values-first : goal.offset_bounds-values-first
-offset_bounds-values-first c = omega arith
-
-pub bounds-values-first : goal.bounds-values-first
-bounds-values-first c = omega arith
-
-pub overflow_add-second : goal.overflow_add-second
-overflow_add-second c = omega arith
-
-pub offset_bounds-values-second : goal.offset_bounds-values-second
-offset_bounds-values-second c = omega arith
-
-pub bounds-values-second : goal.bounds-values-second
-bounds-values-second c = omega arith
+use Rattle.chains.proofs.leader.same_keys.Goals.{In-loop-column, else-keys-column-eq1-via-then-keys-column-eq1+else-not-same, else-keys-column-eq1-via-else-keys-column-eq1}
 
 -- the answer for one key column is that of all columns up to it
 compared : {s : Bool} (c : In-loop-column) (labels : List ℕ) → let a = c.args in a.first + a.columns ≤ length labels → a.second + a.columns ≤ length labels
@@ -50,7 +23,7 @@ compared : {s : Bool} (c : In-loop-column) (labels : List ℕ) → let a = c.arg
 compared c labels p q k e =
     let a = c.args in
     let h = c.loop-column-test.true in
-    key-compared a.keys c.loop-column.column _ _ (c.loop-column.invariant.1 labels p q) k
+    key-compared a.keys c.loop-column.column _ _ (c.loop-column.invariant labels p q) k
     (e ∙ sym (ap₂ same (value_read a.values.now labels a.columns a.first c.loop-column.column h c.requires.1 p) (value_read a.values.now labels a.columns a.second c.loop-column.column h c.requires.2 q)))
 
 pub returns-then-not-same : goal.returns-then-not-same
@@ -61,27 +34,14 @@ returns-then-not-same c = λ labels p q.
     let e : a.columns - (column + 1) + (column + 1) ≡ a.columns = omega arith in
     sym (rw e at (differ a.keys (column + 1) (a.columns - (column + 1)) _ _ (sym (compared (goal.at.returns-then-not-same c).In-loop-column labels p q (eq-eqb _ 1 c.if-keys-column-eq1.true) (c.same.ensures ∙ ap₂ same (back_is _ c.same-arg-1.given) (back_is _ c.same-arg-then-keys-column-eq1-1.given))) ∙ c.if-not-same.true)))
 
-pub overflow_add-column : goal.overflow_add-column
-overflow_add-column c = omega arith
-
-pub loop-column-smaller : goal.loop-column-smaller
-loop-column-smaller c = omega arith
-
 pub loop-column-preserved : goal.loop-column-preserved
 unfolding in_mask
-loop-column-preserved c = (
-  omega arith,
-  λ labels p q.
-      elim c.if-keys-column-eq1.branch [
-        | then-keys-column-eq1+else-not-same w ↦
-            sym (not-false _ w.if-not-same.false-raw)
-            ∙ compared (goal.at.loop-column-preserved c).In-loop-column labels p q (eq-eqb _ 1 w.if-keys-column-eq1.true) (w.same.ensures ∙ ap₂ same (back_is _ w.same-arg-1.given) (back_is _ w.same-arg-then-keys-column-eq1-1.given))
-        | else-keys-column-eq1 w ↦
-            column-passed c.args.keys c.loop-column.column _ _ (c.loop-column.invariant.1 labels p q) (ne_eqb _ 1 w.if-keys-column-eq1.false)
-      ],
-)
-
-pub returns : goal.returns
-returns c = λ labels p q.
-    let e : c.loop-column.column ≡ c.args.columns = omega arith in
-    rw e at (c.loop-column.invariant.1 labels p q)
+loop-column-preserved c =
+    λ labels p q.
+    elim c.else-keys-column-eq1.branch [
+      | else-keys-column-eq1-via-then-keys-column-eq1+else-not-same w ↦
+          sym (not-false _ w.if-not-same.false-raw)
+          ∙ compared (goal.at.loop-column-preserved c).In-loop-column labels p q (eq-eqb _ 1 w.if-keys-column-eq1.true) (w.same.ensures ∙ ap₂ same (back_is _ w.same-arg-1.given) (back_is _ w.same-arg-then-keys-column-eq1-1.given))
+      | else-keys-column-eq1-via-else-keys-column-eq1 w ↦
+          column-passed c.args.keys c.loop-column.column _ _ (c.loop-column.invariant labels p q) (ne_eqb _ 1 w.if-keys-column-eq1.false)
+    ]

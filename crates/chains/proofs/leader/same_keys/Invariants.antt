@@ -1,5 +1,5 @@
 -- `chains::leader::same_keys` meets its contract. The loop: the keys among the columns passed are the same. Assumes nothing.
-use Prim.Native.Nat.{ℕ, ◌+◌, ◌-◌, ◌≤◌}
+use Prim.Native.Nat.{ℕ, ◌+◌, ◌≤◌}
 use mathlib.Core.Path.{◌≡◌}
 use mathlib.Core.Bool.{true}
 use mathlib.Core.List.{List}
@@ -9,7 +9,4 @@ use Rattle.plan.specs.Group.{same_keys}
 use Rattle.chains.proofs.leader.same_keys.Given as goal
 
 abbrev pub invariant-loop-column : goal.invariant-loop-column
-invariant-loop-column l = (l.column ≤ l.columns) × ((labels : List ℕ) → l.first + l.columns ≤ length labels → l.second + l.columns ≤ length labels → true ≡ same_keys l.keys l.column (row_from l.columns (cells_of l.values labels) l.first) (row_from l.columns (cells_of l.values labels) l.second))
-
-abbrev pub decreases-loop-column : goal.decreases-loop-column
-decreases-loop-column l = l.columns - l.column
+invariant-loop-column l = (labels : List ℕ) → l.first + l.columns ≤ length labels → l.second + l.columns ≤ length labels → true ≡ same_keys l.keys l.column (row_from l.columns (cells_of l.values labels) l.first) (row_from l.columns (cells_of l.values labels) l.second)
