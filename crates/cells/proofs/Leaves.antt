@@ -2,27 +2,26 @@
 use Prim.Native.Nat.{ℕ}
 use mathlib.Core.Path.{◌≡◌, refl, sym, ap, ◌∙◌}
 use mathlib.Core.Bool.{Bool, true, false, cond}
-use mathlib.Core.List.{[], ◌∷◌}
+use Rattle.std.specs.Prelude.{Result, Ok, Err}
+use Rattle.std.specs.Result.{result_unwrap_or}
 use Rattle.label_words.specs.Answers.{LabelVerdict, label, forbidden, refused, label_says}
-use Rattle.label_words.specs.declared.LabelAnswer.{LabelAnswer}
-use Rattle.label_words.specs.declared.LabelAnswer.TheVariants.{Label, Forbidden, IllFormed, NoOperation}
-use Rattle.label_words.specs.contracts.LabelAnswer.{the_type}
-use denote.Enum.Declared.{tag_of}
-use types.Run.{OneOf, miss}
+use Rattle.label_words.specs.declared.LabelRefusal.{LabelRefusal}
+use Rattle.label_words.specs.declared.LabelRefusal.TheVariants.{Forbidden, IllFormed, NoOperation}
 
 abbrev pub leaves : ℕ → LabelVerdict → ℕ
 leaves word (label left) = left
 leaves word forbidden = word
 leaves word (refused number place) = word
 
-pub leaves_word : (word : ℕ) (a : LabelAnswer) → OneOf (1 ∷ 2 ∷ 3 ∷ []) (tag_of the_type a) → leaves word (label_says a) ≡ word
-leaves_word word (Label left) k = absurd (miss (1 ∷ 2 ∷ 3 ∷ []) 0 tt k)
-leaves_word word Forbidden k = refl
-leaves_word word IllFormed k = refl
-leaves_word word NoOperation k = refl
+-- the label, or else the word
+pub leaves_word : (word : ℕ) (a : Result ℕ LabelRefusal) → leaves word (label_says a) ≡ result_unwrap_or a word
+leaves_word word (Ok left) = refl
+leaves_word word (Err Forbidden) = refl
+leaves_word word (Err IllFormed) = refl
+leaves_word word (Err NoOperation) = refl
 
 -- a label on which the operation is forbidden stays
-pub leaves_after : (word after : ℕ) (forbids : Bool) (a : LabelAnswer) → label_says a ≡ cond forbids forbidden (label after) → (forbids ≡ true → after ≡ word)
+pub leaves_after : (word after : ℕ) (forbids : Bool) (a : Result ℕ LabelRefusal) → label_says a ≡ cond forbids forbidden (label after) → (forbids ≡ true → after ≡ word)
     → leaves word (label_says a) ≡ after
 leaves_after word after true a e stays = ap (leaves word) e ∙ sym (stays refl)
 leaves_after word after false a e stays = ap (leaves word) e
