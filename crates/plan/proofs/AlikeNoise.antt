@@ -1,10 +1,9 @@
 -- NOISE of alike tables makes alike tables: both rows get the same draw, and a new cell that the plan does not lock comes from one that it does
 -- not lock. Assumes nothing.
-use Prim.Native.Nat.{ℕ, suc, ◌+◌}
+use Prim.Native.Nat.{ℕ, ◌+◌}
 use mathlib.Core.Path.{◌≡◌, sym, ap, ◌∙◌}
 use mathlib.Core.Bool.{true}
 use mathlib.Core.List.{List}
-use lib.Dec.{leb}
 use lib.IntN.{ℤ}
 use lib.ListN.{get_or, drop, get_or-map}
 use Rattle.label_discharge.specs.Discharge.{forbids_n, after_n}

@@ -1,7 +1,6 @@
 -- Which draw NOISE adds to which row, and which draws are left. Assumes nothing.
 use Prim.Native.Nat.{ℕ, zero, suc, ◌-◌, ◌≤◌, ◌<◌}
 use mathlib.Core.Path.{◌≡◌, refl, ap, ◌∙◌}
-use mathlib.Core.Bool.{Bool, true, false}
 use mathlib.Core.List.{List, [], ◌∷◌}
 use native.Mathlib.Numerals.{one-add}
 use native.Mathlib.Omega.{arith}
@@ -13,7 +12,7 @@ use borrow.Author.Tests.{leb-false}
 use Rattle.label_discharge.specs.Discharge.{forbids_n}
 use Rattle.plan.specs.Noise.{noise_row, check_noise, noisy_row, noisy_rows, with_noise}
 use Rattle.plan.specs.Sense.Draws.{NoiseRows, DrawsEnough, DrawsLeft}
-use Rattle.plan.specs.Steps.{check, make, supply_after}
+use Rattle.plan.specs.Steps.{check, make}
 use Rattle.plan.specs.Table.{Row, no_table, labels_of, grid, top}
 use Rattle.plan.specs.Verdict.{fine, refuse_if, first_row}
 use Rattle.plan.specs.declared.Step.TheVariants.{Scan, Union, Join, Filter, Keep, Apply, Group, Noise}

@@ -3,7 +3,7 @@
 #![tactic(auto)]
 
 // FILTER's comparisons.
-#[derive(Clone, Copy)]
+#[derive(Clone, Copy, Debug, PartialEq, Eq)]
 pub enum Comparison {
     Equal,
     Unequal,
@@ -14,14 +14,14 @@ pub enum Comparison {
 }
 
 // The second operand of FILTER and of APPLY's add and sub.
-#[derive(Clone, Copy)]
+#[derive(Clone, Copy, Debug, PartialEq, Eq)]
 pub enum Operand {
     Constant(i64),
     Column(usize),
 }
 
 // APPLY's operations; cut and band are document 01's words. A cut has its digits, a band its width.
-#[derive(Clone, Copy)]
+#[derive(Clone, Copy, Debug, PartialEq, Eq)]
 pub enum Transform {
     Add(Operand),
     Sub(Operand),
@@ -30,7 +30,7 @@ pub enum Transform {
 }
 
 // GROUP's aggregates.
-#[derive(Clone, Copy)]
+#[derive(Clone, Copy, Debug, PartialEq, Eq)]
 pub enum Aggregate {
     Count,
     Sum,
@@ -40,7 +40,7 @@ pub enum Aggregate {
 }
 
 // The eight steps. In a mask, bit i stands for column i.
-#[derive(Clone, Copy)]
+#[derive(Clone, Copy, Debug, PartialEq, Eq)]
 pub enum Step {
     Scan {
         table: usize,
