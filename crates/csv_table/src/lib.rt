@@ -2,4 +2,4 @@
 #![tactic(auto)]
 
 pub use csv_reader::{TextReading, read_text};
-pub use csv_writer::{TextWriting, text_length, write_text};
+pub use csv_writer::{WritingError, text_length, write_text};

@@ -8,14 +8,15 @@ use lib.Dec.{leb}
 use lib.IntN.{ℤ}
 use lib.ListN.{length, take}
 use borrow.Author.Tests.{leb-true, le-leb, lt-leb}
+use Rattle.std.specs.Prelude.{Result, Ok, Err}
 use Rattle.cells.specs.promises.Search.{table_within}
 use Rattle.cells.specs.promises.Written as cells
 use Rattle.cells.proofs.Written.{then-written}
 use Rattle.csv_text.specs.Text.{header}
 use Rattle.csv_writer.specs.promises.Cells.{spelled}
 use Rattle.csv_writer.specs.promises.Writing.{is_table, text_from, text_length, writing_of, text_after}
-use Rattle.csv_writer.specs.declared.write.TextWriting.{TextWriting}
-use Rattle.csv_writer.specs.declared.write.TextWriting.TheVariants.{Written, TooShort, NoTable}
+use Rattle.csv_writer.specs.declared.write.WritingError.{WritingError}
+use Rattle.csv_writer.specs.declared.write.WritingError.TheVariants.{TooShort, NoTable}
 use Rattle.csv_writer.proofs.Cells.{table-fits, text-spelled, text-length, header-length}
 
 module _ (values : List ℤ) (rows columns : ℕ) where
@@ -44,17 +45,17 @@ module _ (values : List ℤ) (rows columns : ℕ) where
       go false f = absurd (z (e ∙ ap (λ (b : Bool). cond b (length (text_from values rows columns)) 0) f))
       go true f = (refl, e ∙ ap (λ (b : Bool). cond b (length (text_from values rows columns)) 0) f)
 
-  abbrev pub Answered : List ℕ → TextWriting → List ℕ → Type 0
+  abbrev pub Answered : List ℕ → Result ℕ WritingError → List ℕ → Type 0
   Answered text answer after = (answer ≡ writing_of values rows columns text) × (after ≡ text_after values rows columns text)
 
-  pub not_written : (text : List ℕ) → is_table values rows columns ≡ false → Answered text NoTable text
+  pub not_written : (text : List ℕ) → is_table values rows columns ≡ false → Answered text (Err NoTable) text
   not_written text e = (rw e, rw e)
 
-  pub too_short : (text : List ℕ) → is_table values rows columns ≡ true → length text < length (text_from values rows columns) → Answered text TooShort text
+  pub too_short : (text : List ℕ) → is_table values rows columns ≡ true → length text < length (text_from values rows columns) → Answered text (Err TooShort) text
   too_short text e h = let s = lt-leb (length (text_from values rows columns)) (length text) h in (rw (e, s), rw (e, s))
 
   pub all-written : (text mid after : List ℕ) → is_table values rows columns ≡ true → length (text_from values rows columns) ≤ length text → cells.Written text 0 (header columns) mid
-      → cells.Written mid (3 * columns + 1) (spelled columns columns (take (rows * columns) values)) after → {n : ℕ} → n ≡ length (text_from values rows columns) → Answered text (Written n) after
+      → cells.Written mid (3 * columns + 1) (spelled columns columns (take (rows * columns) values)) after → {n : ℕ} → n ≡ length (text_from values rows columns) → Answered text (Ok n) after
   all-written text mid after e h w u l =
       let s = le-leb (length (text_from values rows columns)) (length text) h in
       let t = table-parts e in

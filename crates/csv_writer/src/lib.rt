@@ -5,4 +5,4 @@ mod length;
 mod write;
 
 pub use length::text_length;
-pub use write::{TextWriting, write_text};
+pub use write::{WritingError, write_text};

@@ -112,28 +112,32 @@ fn put_rows(text: &mut [u8], at: usize, values: &[i64], count: usize, columns: u
     }
 }
 
-// What writing a text answers: its length; that the slice is shorter than the text; or that the values have no such table.
-#[derive(Clone, Copy)]
-pub enum TextWriting {
-    Written(usize),
+// Why a text is not written: the slice is shorter than the text, or the values have no such table.
+#[derive(Clone, Copy, Debug, PartialEq, Eq)]
+pub enum WritingError {
     TooShort,
     NoTable,
 }
 
-// Writes the text of the table of so many rows and columns at the start of the values to the start of a slice. Where the slice is shorter
-// than the text, or the values have no such table, it changes nothing.
-pub fn write_text(values: &[i64], rows: usize, columns: usize, text: &mut [u8]) -> TextWriting
+// Writes the text of the table of so many rows and columns at the start of the values to the start of a slice, and answers its length. Where the slice is
+// shorter than the text, or the values have no such table, it changes nothing.
+pub fn write_text(
+    values: &[i64],
+    rows: usize,
+    columns: usize,
+    text: &mut [u8],
+) -> Result<usize, WritingError>
     ensures value { result ≡ writing_of values.now rows columns text.old }
     ensures text_after { text.new ≡ text_after values.now rows columns text.old }
 {
     let needed = text_length(values, rows, columns);
     if needed == 0 {
-        return TextWriting::NoTable;
+        return Err(WritingError::NoTable);
     }
     if text.len() < needed {
-        return TextWriting::TooShort;
+        return Err(WritingError::TooShort);
     }
     let at = put_header(text, columns);
     put_rows(text, at, values, rows * columns, columns);
-    TextWriting::Written(needed)
+    Ok(needed)
 }

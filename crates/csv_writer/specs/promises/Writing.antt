@@ -1,9 +1,9 @@
 -- What the functions that write a text answer, for all arguments.
-use Rattle.std.specs.Prelude.{ℕ, Bool, cond, ◌&&◌, List, ◌++◌, leb, ℤ, length, drop}
+use Rattle.std.specs.Prelude.{ℕ, Bool, cond, ◌&&◌, List, ◌++◌, leb, ℤ, length, drop, Result, Ok, Err}
 use Rattle.cells.specs.promises.Search.{table_within}
 use Rattle.csv_text.specs.Text.{text_of, cut}
-use Rattle.csv_writer.specs.declared.write.TextWriting.{TextWriting}
-use Rattle.csv_writer.specs.declared.write.TextWriting.TheVariants as writing
+use Rattle.csv_writer.specs.declared.write.WritingError.{WritingError}
+use Rattle.csv_writer.specs.declared.write.WritingError.TheVariants as writing
 
 -- the values have a table of so many rows and columns: 1 to 8 columns, at most 256 rows
 abbrev pub is_table : List ℤ → ℕ → ℕ → Bool
@@ -22,10 +22,10 @@ abbrev pub text_fits : List ℤ → ℕ → ℕ → List ℕ → Bool
 text_fits values rows columns text = leb (length (text_from values rows columns)) (length text)
 
 -- what writing answers
-abbrev pub writing_of : List ℤ → ℕ → ℕ → List ℕ → TextWriting
+abbrev pub writing_of : List ℤ → ℕ → ℕ → List ℕ → Result ℕ WritingError
 writing_of values rows columns text =
     cond (is_table values rows columns)
-    (cond (text_fits values rows columns text) (writing.Written (length (text_from values rows columns))) writing.TooShort) writing.NoTable
+    (cond (text_fits values rows columns text) (Ok (length (text_from values rows columns))) (Err writing.TooShort)) (Err writing.NoTable)
 
 -- the slice with the text from its start on, and all else as it was
 abbrev pub text_written : List ℤ → ℕ → ℕ → List ℕ → List ℕ
