@@ -1,12 +1,13 @@
 // Discharge of a label by an operation of level T or A.
-ghost use Rattle.std.specs.Prelude.{◌≡◌, cond, ◌&&◌, ◌||◌, ◌<◌};
-ghost use Rattle.label_words.specs.Answers.{label_says, label, forbidden};
-ghost use Rattle.label_words.specs.Word.{has_h, has_t, has_a};
+ghost use Rattle.std.specs.Prelude.{◌≡◌, ◌<◌};
+ghost use Rattle.label_words.specs.Answers.{label_says};
 ghost use Rattle.label_discharge.specs.Discharge as spec;
 
+use super::level::{AGGREGATES, TRANSFORMS, at_level};
 use label_words::{LabelRefusal, bit, field, well_formed};
 
 // The label after an operation of level T: 0 add, 1 sub, 2 cut (by `digits`), 3 band.
+#[tactic(auto, unfolding(crate::specs::Discharge::transform_answer, crate::specs::Discharge::transform_exists))]
 pub fn discharge_transform(word: u32, operation: u32, digits: u32) -> Result<u32, LabelRefusal>
     ensures { label_says result ≡ spec.transform_answer word operation digits }
 {
@@ -16,10 +17,11 @@ pub fn discharge_transform(word: u32, operation: u32, digits: u32) -> Result<u32
     if !transform_exists(operation, digits) {
         return Err(LabelRefusal::NoOperation);
     }
-    at_t(word, allows_transform(word, operation, digits))
+    at_level(word, TRANSFORMS, allows_transform(word, operation, digits))
 }
 
 // The label after an operation of level A, 0 count, 1 sum, 2 min, 3 max, 4 avg, over a group of so many sheets.
+#[tactic(auto, unfolding(crate::specs::Discharge::aggregate_answer, crate::specs::Discharge::aggregate_exists))]
 pub fn discharge_aggregate(word: u32, operation: u32, sheets: u32) -> Result<u32, LabelRefusal>
     ensures { label_says result ≡ spec.aggregate_answer word operation sheets }
 {
@@ -29,38 +31,11 @@ pub fn discharge_aggregate(word: u32, operation: u32, sheets: u32) -> Result<u32
     if 5 <= operation {
         return Err(LabelRefusal::NoOperation);
     }
-    at_a(word, allows_aggregate(word, operation, sheets))
-}
-
-// The rule of level T: forbidden under stage H, and stage T goes if it allows the operation.
-fn at_t(word: u32, allowed: bool) -> Result<u32, LabelRefusal>
-    ensures { label_says result ≡ cond (has_h word) forbidden (label (cond (has_t word && allowed) (spec.without_t word) word)) }
-{
-    if bit(word, 31) {
-        return Err(LabelRefusal::Forbidden);
-    }
-    Ok(if bit(word, 30) & allowed {
-        without_t(word)
-    } else {
-        word
-    })
-}
-
-// The rule of level A: forbidden under stage H or T, and stage A goes if it allows the operation.
-fn at_a(word: u32, allowed: bool) -> Result<u32, LabelRefusal>
-    ensures { label_says result ≡ cond (has_h word || has_t word) forbidden (label (cond (has_a word && allowed) (spec.without_a word) word)) }
-{
-    if bit(word, 31) | bit(word, 30) {
-        return Err(LabelRefusal::Forbidden);
-    }
-    Ok(if bit(word, 29) & allowed {
-        without_a(word)
-    } else {
-        word
-    })
+    at_level(word, AGGREGATES, allows_aggregate(word, operation, sheets))
 }
 
 // Whether there is such an operation of level T.
+#[tactic(auto, unfolding(crate::specs::Discharge::transform_exists))]
 fn transform_exists(operation: u32, digits: u32) -> bool
     ensures { result ≡ spec.transform_exists operation digits }
 {
@@ -68,6 +43,7 @@ fn transform_exists(operation: u32, digits: u32) -> bool
 }
 
 // Whether stage T allows the operation; a cut takes off at least the digits named there.
+#[tactic(auto, unfolding(crate::specs::Discharge::allows_transform))]
 fn allows_transform(word: u32, operation: u32, digits: u32) -> bool
     requires { operation < 4 }
     ensures { result ≡ spec.allows_transform word operation digits }
@@ -76,23 +52,10 @@ fn allows_transform(word: u32, operation: u32, digits: u32) -> bool
 }
 
 // Whether stage A allows the operation over so many sheets.
+#[tactic(auto, unfolding(crate::specs::Discharge::allows_aggregate, crate::specs::Discharge::enough_sheets))]
 fn allows_aggregate(word: u32, operation: u32, sheets: u32) -> bool
     requires { operation < 5 }
     ensures { result ≡ spec.discharges_a word operation sheets }
 {
     bit(word, 16 + operation) & (field(word, 0, 10) <= sheets)
-}
-
-// The word with stage T and its fields zero; bits 22, 21, 15, 14 and 13 are zero in a label.
-fn without_t(word: u32) -> u32
-    ensures { result ≡ spec.without_t word }
-{
-    word & 0b1011_0000_1_00_11111_000_000_1111111111
-}
-
-// The word with stage A and its fields zero.
-fn without_a(word: u32) -> u32
-    ensures { result ≡ spec.without_a word }
-{
-    word & 0b1101_1111_1_00_00000_000_111_0000000000
 }

@@ -2,6 +2,7 @@
 #![tactic(auto)]
 
 mod discharge;
+mod level;
 mod level_n;
 
 pub use discharge::{discharge_aggregate, discharge_transform};

@@ -16,11 +16,11 @@ use Rattle.label_words.proofs.Packed.{peel}
 use Rattle.label_words.proofs.Words.{field_lt}
 
 -- Fields are listed from a bit on, each with its width and whether the mask leaves it out. Their mask, and whether those that it takes are zero.
-abbrev mask : List (ℕ × Bool) → ℕ
+abbrev pub mask : List (ℕ × Bool) → ℕ
 mask [] = 0
 mask (f ∷ rest) = mask rest * 2 ^ f.0 + cond f.1 0 (2 ^ f.0 - 1)
 
-abbrev all_zero : ℕ → ℕ → List (ℕ × Bool) → Bool
+abbrev pub all_zero : ℕ → ℕ → List (ℕ × Bool) → Bool
 all_zero word at [] = true
 all_zero word at (f ∷ rest) = cond f.1 (all_zero word (at + f.0) rest) (all_zero word (at + f.0) rest && eqb (field_at word at f.0) 0)
 
@@ -71,7 +71,8 @@ kept-zero word at (f ∷ rest) =
     rw (sum-zero (kept word (at + f.0) rest) (cond f.1 0 (field_at word at f.0)) (2 ^ f.0) (pow_pos f.0), none_kept f.1, kept-zero word (at + f.0) rest)
     (left_out f.1 (all_zero word (at + f.0) rest) (eqb (field_at word at f.0) 0))
 
-mask-zero : (word : ℕ) (fields : List (ℕ × Bool)) → eqb (bit_and word (mask fields)) 0 ≡ all_zero word 0 fields
+-- the bits that the mask takes are zero where its fields are
+pub mask-zero : (word : ℕ) (fields : List (ℕ × Bool)) → eqb (bit_and word (mask fields)) 0 ≡ all_zero word 0 fields
 mask-zero word fields = ap (λ (w : ℕ). eqb w 0) (mask_is word fields) ∙ kept-zero word 0 fields
 
 -- ---- the bit above
