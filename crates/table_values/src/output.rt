@@ -8,16 +8,9 @@ pub fn copy_out(values: &[i64], at: usize, count: usize, output: &mut [i64]) -> 
     ensures value { result ≡ spec.copies values.now at count output.old }
     ensures output_after { output.new ≡ cond result (spec.copied values.now at count output.old) output.old }
 {
-    if !cells::within(at, count, values.len()) {
+    if !cells::within(at, count, values.len()) || output.len() < count {
         return false;
     }
-    if output.len() < count {
-        return false;
-    }
-    let mut i = 0;
-    while i < count {
-        output[i] = values[at + i];
-        i += 1;
-    }
+    output[..count].copy_from_slice(&values[at..at + count]);
     true
 }
