@@ -1,22 +1,20 @@
 -- "Refused because of the input (place: a byte offset)": of a plan 16; then for each step 17, 18, 19.
-use Rattle.std.specs.Prelude.{ℕ, zero, suc, ◌+◌, ◌*◌, not, List, [], ◌∷◌, eqb, length, drop}
+use Rattle.std.specs.Prelude.{ℕ, zero, suc, ◌+◌, ◌*◌, not, List, [], ◌∷◌, Option, Some, None, eqb, length, drop}
 use Rattle.input.specs.Verdict.{InputVerdict, rejected, and_then, reject_if}
 use Rattle.plan.specs.Steps.{takes}
 use Rattle.plan.specs.Widths.{enough_tables, placed, made_columns}
 use Rattle.plan.specs.declared.Step.{Step}
 use Rattle.plan_part.specs.PlanPart.{step_count, length_fits}
 use Rattle.records.specs.Record.{fields_at, step_of}
-use Rattle.records.specs.declared.Found.{Found}
-use Rattle.records.specs.declared.Found.TheVariants as found
 
 -- a step's 18, then its 19, and then the steps after it
 abbrev pub check_step : Step → ℕ → List ℕ → List ℕ → InputVerdict → InputVerdict
 check_step step place tables stack later =
     and_then (reject_if (not (enough_tables step (length stack))) 18 place) (and_then (reject_if (not (placed step tables stack)) 19 place) later)
 
-abbrev pub check_found : Found → ℕ → List ℕ → List ℕ → (Step → InputVerdict) → InputVerdict
-check_found (found.Step step) place tables stack later = check_step step place tables stack (later step)
-check_found found.Nothing place tables stack later = rejected 17 place
+abbrev pub check_found : Option Step → ℕ → List ℕ → List ℕ → (Step → InputVerdict) → InputVerdict
+check_found (Some step) place tables stack later = check_step step place tables stack (later step)
+check_found None place tables stack later = rejected 17 place
 
 -- "17 .. 18 .. 19 .. Place: the step. A plan that leaves other than one table gives 18 at the plan's end." The plan part begins at `at`.
 abbrev pub check_steps : List ℕ → ℕ → ℕ → ℕ → List ℕ → List ℕ → InputVerdict

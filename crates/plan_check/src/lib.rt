@@ -5,10 +5,3 @@ mod stack;
 mod steps;
 
 pub use steps::check_plan;
-
-// The widths of the tables on the stack of the plan check, the last pushed first, and how many there are.
-#[derive(Clone, Copy)]
-pub struct Widths {
-    pub depth: usize,
-    pub columns: [usize; 3],
-}

@@ -1,39 +1,73 @@
-// What a step asks of the tables on the stack, and what it leaves there, by their widths alone.
-ghost use Rattle.std.specs.Prelude.{◌≡◌, ◌≤◌, ◌<◌, ◌+◌, get_or};
-ghost use Rattle.plan_check.specs.promises.Stack.{stack_of, made_on, WidthsKept, Pushed};
+// The stack of the plan check: what a step asks of the tables on it, and what it leaves there, by their widths alone.
+ghost use Rattle.std.specs.Prelude.{◌≡◌, ◌≤◌, ◌<◌, ◌+◌, [], ◌∷◌, length, get_or, drop};
+ghost use Rattle.plan_check.specs.promises.Stack.{made_on};
 
-use super::Widths;
 use plan::Step;
-use widths::Width;
+use std::marker::Model;
 
-// The width of the table at a place of the stack, 0 where there is none.
-fn width(stack: Widths, place: usize) -> usize
-    requires { WidthsKept stack }
-    ensures { result ≡ get_or (stack_of stack) place 0 }
-{
-    if place < stack.depth {
-        stack.columns[place]
-    } else {
-        0
-    }
+// The widths of the tables on the stack, the last pushed first.
+#[derive(Drop)]
+pub struct Widths {
+    depth: usize,
+    columns: [usize; 3],
 }
 
-// The stack after a step that takes so many tables and makes one so wide.
-pub fn pushed(stack: Widths, taken: usize, made: usize) -> Widths
-    requires { WidthsKept stack × (taken ≤ stack.depth) × (stack.depth < taken + 3) × (made ≤ 8) }
-    ensures { Pushed stack taken made result }
-{
-    let columns = [made, width(stack, taken), width(stack, taken + 1)];
-    Widths {
-        depth: stack.depth - taken + 1,
-        columns,
-    }
+impl Model for Widths {
+    ghost use Rattle.std.specs.Prelude.{ℕ, ◌≤◌, List, take, get_or};
+
+    ghost Value = { List ℕ };
+
+    ghost view = { λ stack. take stack.depth stack.columns };
+
+    // At most three tables, none wider than 8 columns.
+    ghost invariant = { λ stack. (stack.depth ≤ 3) × ((place : ℕ) → get_or stack.columns place 0 ≤ 8) };
 }
 
-// 19: the columns of the table that a step makes, if its table and columns exist and it makes at most 8.
-pub fn made_width(step: Step, tables: &[usize], stack: Widths) -> Width
-    requires { WidthsKept stack }
-    ensures { result ≡ made_on step tables.now (stack_of stack) }
-{
-    widths::made_width(step, tables, width(stack, 1), width(stack, 0))
+impl Widths {
+    // A stack of no tables.
+    pub fn new() -> Widths
+        ensures { result ≡ [] }
+    {
+        Widths {
+            depth: 0,
+            columns: [0; 3],
+        }
+    }
+
+    // How many tables there are.
+    pub fn len(&self) -> usize
+        ensures value { result ≡ length self.now }
+        ensures few { result ≤ 3 }
+    {
+        self.depth
+    }
+
+    // The width of the table at a place, 0 where there is none.
+    fn width(&self, place: usize) -> usize
+        ensures value { result ≡ get_or self.now place 0 }
+        ensures narrow { result ≤ 8 }
+    {
+        if place < self.depth {
+            self.columns[place]
+        } else {
+            0
+        }
+    }
+
+    // Takes so many tables off the stack, and pushes one so wide.
+    pub fn push(&mut self, taken: usize, made: usize)
+        requires { (taken ≤ length self.old) × (length self.old < taken + 3) × (made ≤ 8) }
+        ensures { self.new ≡ made ∷ drop taken self.old }
+    {
+        let depth = self.depth;
+        self.columns = [made, self.width(taken), self.width(taken + 1)];
+        self.depth = depth - taken + 1;
+    }
+
+    // 19: the columns of the table that a step makes, if its table and columns exist and it makes at most 8.
+    pub fn made_width(&self, step: Step, tables: &[usize]) -> Option<usize>
+        ensures { result ≡ made_on step tables.now self.now }
+    {
+        widths::made_width(step, tables, self.width(1), self.width(0))
+    }
 }
