@@ -1,12 +1,12 @@
 // The cells of a table, read into slices that the caller lends.
-ghost use Rattle.std.specs.Prelude.{◌≡◌, ◌+◌, ◌*◌, ◌≤◌, leb, length};
+ghost use Rattle.std.specs.Prelude.{◌≡◌, ◌+◌, ◌*◌, ◌≤◌, length};
 ghost use Rattle.little_endian.specs.Bytes.{number_at};
 ghost use Rattle.table_reader.specs.promises.Reading.{cell_values, cell_labels, overwritten, Read};
 ghost use Rattle.value.specs.Pattern.{signed_of};
 
-use super::Reading;
+use cells::within;
 use little_endian::{eight, four};
-use table_part::{cell_count, shape_of};
+use table_part::{Shape, cell_count, shape_of};
 
 // The value at a place. Of a part with just its bytes no place is tested again.
 fn value_at(table: &[u8], place: usize) -> i64
@@ -26,42 +26,32 @@ fn label_at(table: &[u8], place: usize) -> u32
     four(field, 0)
 }
 
-// Whether a slice of so many elements has room for `count` of them from a place on.
-fn has_room(len: usize, at: usize, count: usize) -> bool
-    ensures { result ≡ leb (at + count) len }
-{
-    if at <= len { count <= len - at } else { false }
-}
-
 // Writes the values and the labels of the first `count` cells, each from a place on.
 fn copy_cells(table: &[u8], values: &mut [i64], labels: &mut [u32], at: usize, count: usize)
     requires { (4 + 12 * count ≤ length table.now) × (at + count ≤ length values.old) × (at + count ≤ length labels.old) }
     ensures values_after { values.new ≡ overwritten values.old at (cell_values table.now count) }
     ensures labels_after { labels.new ≡ overwritten labels.old at (cell_labels table.now count) }
 {
-    let mut cell = 0;
-    while cell < count {
+    for cell in 0..count {
         let place = 4 + 12 * cell;
         let to = at + cell;
         values[to] = value_at(table, place);
         labels[to] = label_at(table, place + 8);
-        cell += 1;
     }
 }
 
 // Writes a table's cells into two slices from a place on, the value of cell i to `at + i` of the one and its label to `at + i` of
-// the other. Where the part or a slice is too short, it writes nothing.
-pub fn read_cells(table: &[u8], values: &mut [i64], labels: &mut [u32], at: usize) -> Reading
+// the other, and answers its shape. Where the part or a slice is too short, it writes nothing.
+pub fn read_cells(table: &[u8], values: &mut [i64], labels: &mut [u32], at: usize) -> Option<Shape>
     ensures { Read table.now values.old labels.old at result values.new labels.new }
 {
     let count = cell_count(table) as usize;
     let fits = (4 + 12 * count <= table.len())
-        & has_room(values.len(), at, count)
-        & has_room(labels.len(), at, count);
+        & within(at, count, values.len())
+        & within(at, count, labels.len());
     if !fits {
-        return Reading::DoesNotFit;
+        return None;
     }
     copy_cells(table, values, labels, at, count);
-    let shape = shape_of(table);
-    Reading::Cells(shape)
+    Some(shape_of(table))
 }

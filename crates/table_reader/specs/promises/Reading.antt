@@ -1,9 +1,8 @@
 -- What reading a table's cells into two lent slices answers, and what the slices hold afterwards.
-use Rattle.std.specs.Prelude.{ℕ, ◌+◌, ◌*◌, ◌≡◌, Bool, cond, ◌&&◌, List, ◌++◌, map, leb, ℤ, length, take, drop}
+use Rattle.std.specs.Prelude.{ℕ, ◌+◌, ◌*◌, ◌≡◌, Bool, cond, ◌&&◌, List, ◌++◌, map, leb, ℤ, Option, Some, None, length, take, drop}
 use Rattle.table_part.specs.TablePart.{cell_count, cells_from}
+use Rattle.table_part.specs.declared.Shape.{Shape}
 use Rattle.table_part.specs.promises.Shape.{shape_of}
-use Rattle.table_reader.specs.declared.Reading.{Reading}
-use Rattle.table_reader.specs.declared.Reading.TheVariants.{Cells, DoesNotFit}
 
 -- the part has its cells, and two slices of these lengths have room for them from a place on
 unfoldable pub readable : List ℕ → ℕ → ℕ → ℕ → Bool
@@ -22,8 +21,8 @@ abbrev pub overwritten : {A : Type 0} → List A → ℕ → List A → List A
 overwritten old at new = take at old ++ new ++ drop (at + length new) old
 
 -- the answer, and the contents of each slice: its cells' values or labels from the place on, and all else as it was
-unfoldable pub reading_of : List ℕ → List ℤ → List ℕ → ℕ → Reading
-reading_of part values labels at = cond (readable part (length values) (length labels) at) (Cells (shape_of part)) DoesNotFit
+unfoldable pub reading_of : List ℕ → List ℤ → List ℕ → ℕ → Option Shape
+reading_of part values labels at = cond (readable part (length values) (length labels) at) (Some (shape_of part)) None
 
 unfoldable pub values_after : List ℕ → List ℤ → List ℕ → ℕ → List ℤ
 values_after part values labels at =
@@ -34,7 +33,7 @@ labels_after part values labels at =
     cond (readable part (length values) (length labels) at) (overwritten labels at (cell_labels part (cell_count part))) labels
 
 pub record Read (part : List ℕ) (values : List ℤ) (labels : List ℕ) (at : ℕ)
-    (answer : Reading) (new_values : List ℤ) (new_labels : List ℕ) : Type 0 where
+    (answer : Option Shape) (new_values : List ℤ) (new_labels : List ℕ) : Type 0 where
   pub answers : answer ≡ reading_of part values labels at
   pub writes_values : new_values ≡ values_after part values labels at
   pub writes_labels : new_labels ≡ labels_after part values labels at

@@ -1,5 +1,4 @@
 -- `table_reader::reader::copy_cells` meets its contract. Assumes nothing.
-use Prim.Native.Nat.{◌-◌, ◌≤◌}
 use mathlib.Core.Path.{◌≡◌}
 use lib.Seq.{paste}
 use Rattle.table_reader.proofs.CellsRead.{news}
@@ -7,8 +6,5 @@ use Rattle.table_reader.proofs.reader.copy_cells.Given as goal
 
 abbrev pub invariant-loop-cell : goal.invariant-loop-cell
 invariant-loop-cell l =
-    (l.cell ≤ l.count) × (l.values ≡ paste l.initial.values l.at (news (λ cell. cell.value) l.table l.count) l.cell) ×
+    (l.values ≡ paste l.initial.values l.at (news (λ cell. cell.value) l.table l.count) l.cell) ×
     (l.labels ≡ paste l.initial.labels l.at (news (λ cell. cell.label) l.table l.count) l.cell)
-
-abbrev pub decreases-loop-cell : goal.decreases-loop-cell
-decreases-loop-cell l = l.count - l.cell
