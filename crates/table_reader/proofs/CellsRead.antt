@@ -9,7 +9,7 @@ use native.Mathlib.Omega.{arith}
 use lib.Dec.{leb}
 use lib.IntN.{ℤ}
 use lib.ListN.{length, get_or, set, length-map, get_or-map}
-use lib.Seq.{take_all, paste, paste-suc, length-paste}
+use lib.Seq.{take_all, paste, paste-suc}
 use borrow.Author.Tests.{leb-true}
 use Rattle.cells.specs.promises.Cells.{within}
 use Rattle.cells.proofs.CellLaws.{within-le}
