@@ -7,7 +7,7 @@ use lib.ListN.{length, drop}
 use Rattle.cells.specs.promises.Work.{Work, Memory, cells_in, mark_room}
 use Rattle.live_tables.specs.declared.LiveTable.{LiveTable}
 use Rattle.live_tables.specs.declared.Stack.{Stack}
-use Rattle.memory.specs.declared.StepAnswer.TheVariants.{Made}
+use Rattle.std.specs.Prelude.{Ok}
 use Rattle.memory.specs.promises.Stack.{Ready, mark_part, stack_in, with_table, rows_in, marked_in, Inside, RowsAt}
 use Rattle.memory.specs.promises.Steps.{verdict, DoneWhere}
 use Rattle.plan.specs.Steps.{takes, make}
@@ -18,7 +18,8 @@ use Rattle.plan.specs.declared.Step.{Step}
 use Rattle.cells.proofs.Rows.{bare, marks-are}
 use Rattle.memory.proofs.Finish.{made-done, rows-like, marks_stay}
 use Rattle.memory.proofs.LiveTables.{Stands, at-is, marks-place, marks-inside, marked-count, marked-are-wide, bare-is}
-use Rattle.extension.proofs.Rows.{extended_from, extended-wide, extended-count, extended-marks, extended-bare}
+use Rattle.extension.specs.promises.Rows.{extended_from}
+use Rattle.extension.proofs.Rows.{extended-wide, extended-count, extended-marks, extended-bare}
 
 module _ (new : ℕ → Row → Cell) (same : (i : ℕ) (row : Row) → new i row ≡ new i (bare row)) (step : Step) (supply : Supply) (m : Memory) (stack : Stack)
     {table : LiveTable} (is-ready : Ready (length m.work.values) (length m.work.labels) stack) (here : Stands stack 0 table)
@@ -26,7 +27,7 @@ module _ (new : ℕ → Row → Cell) (same : (i : ℕ) (row : Row) → new i ro
   pub extension-done : {fit : Bool} {after : Work} → fit ≡ true → takes step ≡ 1 → verdict step supply (stack_in m stack) ≡ fine → table.columns + 1 ≤ 8
       → make step supply (stack_in m stack) ≡ record { columns = table.columns + 1; rows = extended_from new 0 (marked_in m table) }
       → RowsAt table.at (extended_from new 0 (rows_in m.work table)) m.work after
-      → DoneWhere fit step supply m stack (record { answer = Made; stack = with_table stack table.slot (table.columns + 1) table.rows }) (record { work = after; marks = m.marks })
+      → DoneWhere fit step supply m stack (Ok (with_table stack table.slot (table.columns + 1) table.rows)) (record { work = after; marks = m.marks })
   extension-done {fit} {after} t one allowed narrow made stand =
       let rows = extended_from new 0 (marked_in m table) in
       let marked = marks-inside here is-ready room in

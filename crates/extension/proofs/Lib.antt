@@ -1,6 +1,6 @@
 -- For the proofs of `apply` and `noise` to cite.
-mod Grids
+pub mod LabelledRows
 pub mod RowExtended
 pub mod Rows
-pub mod Extending
+pub mod MakingRows
 pub mod Ends

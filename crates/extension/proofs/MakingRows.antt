@@ -2,42 +2,76 @@
 -- Assumes nothing.
 use Prim.Native.Nat.{ℕ, ◌+◌, ◌*◌, ◌≤◌, ◌<◌}
 use mathlib.Core.Path.{◌≡◌, sym, ap, ◌∙◌}
-use mathlib.Core.Bool.{true}
+use mathlib.Core.Bool.{true, ◌&&◌, and-eq-true_iff}
 use mathlib.Core.List.{List, [], ◌∷◌, ◌++◌, append-nil}
-use native.Mathlib.Nat.{zero-add, zero-mul, mul-le-mul_right, mul-le-mul}
+use native.Mathlib.Nat.{zero-add, mul-le-mul_right, mul-le-mul}
 use native.Mathlib.Numerals.{add-one}
 use native.Mathlib.Omega.{arith}
-use lib.IntN.{pos}
-use lib.ListN.{length, get_or, take, drop, length-drop}
-use Rattle.label_words.specs.WellFormed.{well_formed}
+use lib.Dec.{leb, ltb}
+use lib.ListN.{length, take, drop, length-drop}
+use borrow.Author.Tests.{leb-true, ltb-true}
 use Rattle.cells.specs.promises.Cells.{bare_rows, Wide, row_from}
-use Rattle.cells.specs.promises.Labelled.{column_formed}
+use Rattle.cells.specs.promises.Search.{table_within}
 use Rattle.cells.specs.promises.Work.{Work, cells_in, room, Kept}
 use Rattle.cells.specs.promises.Written.{Written, CellsWritten, Put}
 use Rattle.live_tables.specs.declared.LiveTable.{LiveTable}
-use Rattle.memory.specs.promises.Stack.{last_slot, rows_in, labels_in, Inside, RowsAt}
-use Rattle.plan.specs.Table.{Each, Cell, Row, blank, flat}
-use Rattle.cells.proofs.CellLaws.{moved_in, cells-get, kept-none, kept_then}
+use Rattle.memory.specs.promises.Stack.{last_slot, rows_in, Inside, RowsAt}
+use Rattle.plan.specs.Table.{Each, Cell, Row, flat}
+use Rattle.extension.specs.promises.Rows.{extended, extended_from}
+use Rattle.extension.specs.promises.Extending.{extends}
+use Rattle.cells.proofs.CellLaws.{moved_in, kept-none, kept_then}
 use Rattle.cells.proofs.RowReads.{row_of, row-cells, flat_append, flat-length}
 use Rattle.cells.proofs.Rows.{rows-wide, rows-more, rows-length}
-use Rattle.cells.proofs.Written.{Moves, as_long, nothing_written, below-written, read_below, then-written}
+use Rattle.cells.proofs.Searching.{within-table}
+use Rattle.cells.proofs.Written.{Moves, as_long, nothing_written, below-written, then-written}
 use Rattle.memory.proofs.LiveTables.{cells-room, rows-room}
 use Rattle.memory.proofs.MovedDown.{down-values, down-labels, moved_down}
 use Rattle.memory.proofs.Stacks.{part-of-front}
-use Rattle.extension.proofs.Grids.{word-fits}
-use Rattle.extension.proofs.Rows.{extended, extended_from, extended-wide, extended-count, extended-more}
+use Rattle.extension.proofs.Rows.{extended-wide, extended-count, extended-more}
+
+-- a table that can get a column: what was tested
+pub record Extendable (top : LiveTable) (column values labels : ℕ) : Type 0 where
+  pub inside : Inside top values labels
+  pub narrow : top.columns + 1 ≤ 8
+  pub has-column : column < top.columns
+
+pub extendable : (top : LiveTable) (column values labels : ℕ) → extends top column values labels ≡ true → Extendable top column values labels
+extendable top column values labels e =
+    let within = table_within top.at top.rows top.columns last_slot in
+    let a = (and-eq-true_iff (within && ltb column top.columns && ltb top.columns 8 && leb room values) (leb room labels)).0 e in
+    let b = (and-eq-true_iff (within && ltb column top.columns && ltb top.columns 8) (leb room values)).0 a.0 in
+    let c = (and-eq-true_iff (within && ltb column top.columns) (ltb top.columns 8)).0 b.0 in
+    let d = (and-eq-true_iff within (ltb column top.columns)).0 c.0 in
+    let t = within-table top.at top.rows top.columns last_slot d.0 in
+    record {
+      inside = record { few-rows = t.0; few-columns = t.1; below = t.2; values-room = leb-true room values b.1; labels-room = leb-true room labels a.1 };
+      narrow = omega (arith, ltb-true top.columns 8 c.1);
+      has-column = ltb-true column top.columns d.1;
+    }
+
+-- where a row of the table stands, and where the row made of it
+abbrev pub from_of : LiveTable → ℕ → ℕ
+from_of top row = top.at + row * top.columns
+
+abbrev pub to_of : LiveTable → ℕ → ℕ
+to_of top row = last_slot + row * (top.columns + 1)
+
+module _ {top : LiveTable} {values labels : ℕ} (r : Inside top values labels) (narrow : top.columns + 1 ≤ 8) {row : ℕ} (h : row < top.rows) where
+  pub places : (from_of top row + top.columns ≤ last_slot) × (last_slot ≤ to_of top row) × (to_of top row + top.columns < room)
+  places =
+      let reach : row * top.columns + top.columns ≤ top.rows * top.columns = omega (arith, mul-le-mul_right top.columns h) in
+      let room-left : row * (top.columns + 1) + (top.columns + 1) ≤ 2048 = omega (arith, mul-le-mul_right (top.columns + 1) h, mul-le-mul r.few-rows narrow) in
+      (omega (arith, reach, r.below), omega arith, omega (arith, room-left))
 
 -- the rows made of a table's first ones
 abbrev pub made_of : (ℕ → Row → Cell) → LiveTable → Work → ℕ → List Row
 made_of new top w row = extended_from new 0 (bare_rows top.columns row (drop top.at (cells_in w)))
 
-pub made-count : (new : ℕ → Row → Cell) (top : LiveTable) (w : Work) (row : ℕ) → length (made_of new top w row) ≡ row
+made-count : (new : ℕ → Row → Cell) (top : LiveTable) (w : Work) (row : ℕ) → length (made_of new top w row) ≡ row
 made-count new top w row = extended-count new 0 (bare_rows top.columns row (drop top.at (cells_in w))) ∙ rows-length top.columns row (drop top.at (cells_in w))
 
-pub record Making (new : ℕ → Row → Cell) (top : LiveTable) (w₀ w : Work) (from to row : ℕ) : Type 0 where
+pub record Making (new : ℕ → Row → Cell) (top : LiveTable) (w₀ w : Work) (row : ℕ) : Type 0 where
   pub row-le : row ≤ top.rows
-  pub from_is : from ≡ top.at + row * top.columns
-  pub to_is : to ≡ last_slot + row * (top.columns + 1)
   pub written : CellsWritten w₀ last_slot (flat (made_of new top w₀ row)) w
   pub same : Kept w₀ w
 
@@ -46,90 +80,73 @@ abbrev here_of : LiveTable → Work → ℕ → Row
 here_of top w row = row_of (cells_in w) top.at top.columns row
 
 module _ {new : ℕ → Row → Cell} {top : LiveTable} {w₀ : Work} (r : Inside top (length w₀.values) (length w₀.labels)) (narrow : top.columns + 1 ≤ 8) where
-  pub make-begins : Making new top w₀ w₀ top.at last_slot 0
+  pub make-begins : Making new top w₀ w₀ 0
   make-begins = record {
     row-le = omega arith;
-    from_is = omega (arith, zero-mul top.columns);
-    to_is = omega (arith, zero-mul (top.columns + 1));
     written = nothing_written (cells_in w₀) last_slot (omega (arith, cells-room w₀ r));
     same = kept-none w₀;
   }
 
-  module _ {w : Work} {from to row : ℕ} (s : Making new top w₀ w from to row) (h : row < top.rows) where
-    reach : row * top.columns + top.columns ≤ top.rows * top.columns
-    reach = omega (arith, mul-le-mul_right top.columns h)
+  module _ {w : Work} {row : ℕ} (s : Making new top w₀ w row) where
+    -- it stands in the slices as they are by now, too
+    pub inside-yet : Inside top (length w.values) (length w.labels)
+    inside-yet = record {
+      few-rows = r.few-rows;
+      few-columns = r.few-columns;
+      below = r.below;
+      values-room = omega (arith, s.same.as-many-values, r.values-room);
+      labels-room = omega (arith, s.same.as-many-labels, r.labels-room);
+    }
 
-    room-left : row * (top.columns + 1) + (top.columns + 1) ≤ 2048
-    room-left = omega (arith, mul-le-mul_right (top.columns + 1) h, mul-le-mul r.few-rows narrow)
+    module _ (h : row < top.rows) where
+      reach : row * top.columns + top.columns ≤ top.rows * top.columns
+      reach = omega (arith, mul-le-mul_right top.columns h)
 
-    pub places : (from + top.columns ≤ last_slot) × (last_slot ≤ to) × (to + top.columns < room) × (row ≤ 256) × (room ≤ length w.values) × (room ≤ length w.labels)
-    places = (
-      omega (arith, s.from_is, reach, r.below),
-      omega (arith, s.to_is),
-      omega (arith, s.to_is, room-left),
-      omega (arith, r.few-rows),
-      omega (arith, s.same.as-many-values, r.values-room),
-      omega (arith, s.same.as-many-labels, r.labels-room),
-    )
+      long : last_slot + length (flat (made_of new top w₀ row)) ≡ to_of top row
+      long =
+          let wide = rows-wide top.columns row (drop top.at (cells_in w₀)) (simp length-drop (omega (arith, reach, r.below, cells-room w₀ r))) in
+          let count : length (flat (made_of new top w₀ row)) ≡ row * (top.columns + 1)
+          = flat-length (top.columns + 1) (made_of new top w₀ row) (extended-wide new top.columns 0 (bare_rows top.columns row (drop top.at (cells_in w₀))) wide)
+          ∙ ap (λ (n : ℕ). n * (top.columns + 1)) (made-count new top w₀ row) in
+          omega (arith, count)
 
-    long : last_slot + length (flat (made_of new top w₀ row)) ≡ to
-    long =
-        let wide = rows-wide top.columns row (drop top.at (cells_in w₀)) (simp length-drop (omega (arith, reach, r.below, cells-room w₀ r))) in
-        let count : length (flat (made_of new top w₀ row)) ≡ row * (top.columns + 1)
-        = flat-length (top.columns + 1) (made_of new top w₀ row) (extended-wide new top.columns 0 (bare_rows top.columns row (drop top.at (cells_in w₀))) wide)
-        ∙ ap (λ (n : ℕ). n * (top.columns + 1)) (made-count new top w₀ row) in
-        omega (arith, count, s.to_is)
-
-    -- the label that the row's new label comes from
-    pub word-well : {column : ℕ} → column < top.columns → column_formed column (labels_in w₀.labels top) ≡ true → well_formed (get_or w.labels (from + column) 0) ≡ true
-    word-well {column} k e =
-        let below : from + column < last_slot = omega (arith, places.0) in
-        let same : get_or w₀.labels (from + column) 0 ≡ get_or w.labels (from + column) 0
-        = ap (λ (cell : Cell). cell.label)
-        (sym (cells-get w₀ (from + column) (pos 0) (omega (arith, r.values-room)) (omega (arith, r.labels-room))) ∙ sym (read_below s.written (from + column) blank below)
-        ∙ cells-get w (from + column) (pos 0) (omega (arith, places.4)) (omega (arith, places.5))) in
-        ap well_formed (sym same) ∙ word-fits top.rows top.columns w₀.labels row from h column k top.at e s.from_is
-
-    pub row-again : {after : Work} → Put to (extended new row (row_from top.columns (cells_in w) from)).cells w after → Making new top w₀ after (from + top.columns) (to + (top.columns + 1)) (row + 1)
-    row-again {after} one =
-        let cells : take top.columns (drop from (cells_in w)) ≡ (here_of top w₀ row).cells
-        = sym (part-of-front from top.columns last_slot (cells_in w) places.0 (omega (arith, written-length))) ∙ ap (λ (l : List Cell). take top.columns (drop from l)) (below-written s.written)
-        ∙ part-of-front from top.columns last_slot (cells_in w₀) places.0 (omega (arith, cells-room w₀ r)) ∙ ap (λ (k : ℕ). take top.columns (drop k (cells_in w₀))) s.from_is ∙ sym (row-cells (cells_in w₀) top.at top.columns row) in
-        let put : Written (cells_in w) to (extended new row (here_of top w₀ row)).cells (cells_in after) = rw (← cells) one.written in
-        let more : made_of new top w₀ (row + 1) ≡ (made_of new top w₀ row) ++ (extended new row (here_of top w₀ row) ∷ [])
-        = ap (made_of new top w₀) (add-one row) ∙ ap (extended_from new 0) (rows-more top.columns row (drop top.at (cells_in w₀)))
-        ∙ extended-more new 0 (bare_rows top.columns row (drop top.at (cells_in w₀))) _
-        ∙ ap (λ (k : ℕ). made_of new top w₀ row ++ (extended new k (here_of top w₀ row) ∷ [])) (zero-add _ ∙ rows-length top.columns row (drop top.at (cells_in w₀))) in
-        let longer : flat (made_of new top w₀ (row + 1)) ≡ flat (made_of new top w₀ row) ++ (extended new row (here_of top w₀ row)).cells
-        = ap flat more ∙ flat_append (made_of new top w₀ row) _ ∙ ap (λ (t : List Cell). flat (made_of new top w₀ row) ++ t) (append-nil _) in
-        record {
-          row-le = omega arith;
-          from_is = omega (arith, s.from_is);
-          to_is = omega (arith, s.to_is);
-          written = rw longer (then-written s.written (sym long) put);
-          same = kept_then s.same one.kept;
-        }
-      where
-        written-length : length (cells_in w) ≡ length (cells_in w₀)
-        written-length = as_long s.written
+      pub row-again : {after : Work} → Put (to_of top row) (extended new row (row_from top.columns (cells_in w) (from_of top row))).cells w after → Making new top w₀ after (row + 1)
+      row-again {after} one =
+          let from = from_of top row in
+          let below : from + top.columns ≤ last_slot = (places r narrow h).0 in
+          let cells : take top.columns (drop from (cells_in w)) ≡ (here_of top w₀ row).cells
+          = sym (part-of-front from top.columns last_slot (cells_in w) below (omega (arith, as_long s.written, cells-room w₀ r))) ∙ ap (λ (l : List Cell). take top.columns (drop from l)) (below-written s.written)
+          ∙ part-of-front from top.columns last_slot (cells_in w₀) below (omega (arith, cells-room w₀ r)) ∙ sym (row-cells (cells_in w₀) top.at top.columns row) in
+          let put : Written (cells_in w) (to_of top row) (extended new row (here_of top w₀ row)).cells (cells_in after) = rw (← cells) one.written in
+          let more : made_of new top w₀ (row + 1) ≡ (made_of new top w₀ row) ++ (extended new row (here_of top w₀ row) ∷ [])
+          = ap (made_of new top w₀) (add-one row) ∙ ap (extended_from new 0) (rows-more top.columns row (drop top.at (cells_in w₀)))
+          ∙ extended-more new 0 (bare_rows top.columns row (drop top.at (cells_in w₀))) _
+          ∙ ap (λ (k : ℕ). made_of new top w₀ row ++ (extended new k (here_of top w₀ row) ∷ [])) (zero-add _ ∙ rows-length top.columns row (drop top.at (cells_in w₀))) in
+          let longer : flat (made_of new top w₀ (row + 1)) ≡ flat (made_of new top w₀ row) ++ (extended new row (here_of top w₀ row)).cells
+          = ap flat more ∙ flat_append (made_of new top w₀ row) _ ∙ ap (λ (t : List Cell). flat (made_of new top w₀ row) ++ t) (append-nil _) in
+          record {
+            row-le = omega arith;
+            written = rw longer (then-written s.written (sym long) put);
+            same = kept_then s.same one.kept;
+          }
 
 -- the table made, moved down to the place of the table that it is made of
 module _ (new : ℕ → Row → Cell) {top : LiveTable} {w₀ w : Work} (r : Inside top (length w₀.values) (length w₀.labels)) (narrow : top.columns + 1 ≤ 8)
-    {rows : List Row} (same : rows ≡ made_of new top w₀ top.rows) (put : Put last_slot (flat rows) w₀ w) where
-  wide : Each (Wide (top.columns + 1)) rows
-  wide = rw same (extended-wide new top.columns 0 (rows_in w₀ top) (rows-wide top.columns top.rows (drop top.at (cells_in w₀)) (rows-room w₀ r)))
+    (put : Put last_slot (flat (extended_from new 0 (rows_in w₀ top))) w₀ w) where
+  wide : Each (Wide (top.columns + 1)) (extended_from new 0 (rows_in w₀ top))
+  wide = extended-wide new top.columns 0 (rows_in w₀ top) (rows-wide top.columns top.rows (drop top.at (cells_in w₀)) (rows-room w₀ r))
 
-  counted : length rows ≡ top.rows
-  counted = ap length same ∙ made-count new top w₀ top.rows
+  counted : length (extended_from new 0 (rows_in w₀ top)) ≡ top.rows
+  counted = made-count new top w₀ top.rows
 
   few : top.rows * (top.columns + 1) ≤ 2048
   few = mul-le-mul r.few-rows narrow
 
   pub table-values : Moves last_slot top.at (top.rows * (top.columns + 1)) (length w.values)
-  table-values = down-values top.at (top.columns + 1) top.rows rows put wide counted (omega (arith, r.below)) few r.values-room r.labels-room
+  table-values = down-values top.at (top.columns + 1) top.rows _ put wide counted (omega (arith, r.below)) few r.values-room r.labels-room
 
   pub table-labels : Moves last_slot top.at (top.rows * (top.columns + 1)) (length w.labels)
-  table-labels = down-labels top.at (top.columns + 1) top.rows rows put wide counted (omega (arith, r.below)) few r.values-room r.labels-room
+  table-labels = down-labels top.at (top.columns + 1) top.rows _ put wide counted (omega (arith, r.below)) few r.values-room r.labels-room
 
-  pub table-down : RowsAt top.at rows w₀ (moved_in last_slot top.at (top.rows * (top.columns + 1)) w)
-  table-down = moved_down top.at (top.columns + 1) top.rows rows put wide counted (omega (arith, r.below)) few r.values-room r.labels-room
+  pub table-down : RowsAt top.at (extended_from new 0 (rows_in w₀ top)) w₀ (moved_in last_slot top.at (top.rows * (top.columns + 1)) w)
+  table-down = moved_down top.at (top.columns + 1) top.rows _ put wide counted (omega (arith, r.below)) few r.values-room r.labels-room

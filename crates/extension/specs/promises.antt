@@ -1,0 +1,3 @@
+-- `Rows`: rows with one cell more. `Extending`: the table that is made of a table.
+pub mod Rows
+pub mod Extending
