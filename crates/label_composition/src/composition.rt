@@ -1,5 +1,5 @@
 // Composition: each field of the new label from the same field of the two labels.
-ghost use Rattle.std.specs.Prelude.{◌≡◌, max};
+ghost use Rattle.std.specs.Prelude.{◌≡◌};
 ghost use Rattle.std.specs.Int.Bits.{bit_and};
 ghost use Rattle.label_words.specs.Answers.{label_says};
 ghost use Rattle.label_words.specs.Word.{bit_at, field_at};
@@ -9,6 +9,7 @@ use super::packing::pack;
 use label_words::{LabelRefusal, bit, field, well_formed};
 
 // The label of what comes from two labelled cells, or that one of the words is no label.
+#[tactic(auto, unfolding(crate::specs::Composition::compose_answer))]
 pub fn compose(left: u32, right: u32) -> Result<u32, LabelRefusal>
     ensures { label_says result ≡ spec.compose_answer left right }
 {
@@ -20,6 +21,7 @@ pub fn compose(left: u32, right: u32) -> Result<u32, LabelRefusal>
 }
 
 // The same of any two words, labels or not, by their fields: a stage is present if either word has it.
+#[tactic(auto, unfolding(crate::specs::Composition::composed, crate::specs::Composition::transforms_both, crate::specs::Composition::aggregates_both, crate::specs::Composition::noise_both))]
 pub fn compose_words(a: u32, b: u32) -> u32
     ensures { result ≡ spec.composed a b }
 {
@@ -43,32 +45,35 @@ fn allowed_both(a: u32, b: u32, stage: u32, at: u32, width: u32) -> u32
 }
 
 // The digits that a cut must take off: the larger, and none where cut is lost.
+#[tactic(auto, unfolding(crate::specs::Composition::digits_both))]
 fn digits_both(a: u32, b: u32) -> u32
     ensures { result ≡ spec.digits_both a b }
 {
     let left = field(a, 10, 3);
     let right = field(b, 10, 3);
-    let both = digits_with(field(a, 24, 4) & field(b, 24, 4), larger(left, right));
+    let both = digits_with(field(a, 24, 4) & field(b, 24, 4), left.max(right));
     merged(bit(a, 30), bit(b, 30), both, left, right)
 }
 
 // The group minimum: the larger.
+#[tactic(auto, unfolding(crate::specs::Composition::minimum_both))]
 fn minimum_both(a: u32, b: u32) -> u32
     ensures { result ≡ spec.minimum_both a b }
 {
     let left = field(a, 0, 10);
     let right = field(b, 0, 10);
-    merged(bit(a, 29), bit(b, 29), larger(left, right), left, right)
+    merged(bit(a, 29), bit(b, 29), left.max(right), left, right)
 }
 
 // A field of a stage that the left, the right, both or none of two words have.
 fn merged(in_left: bool, in_right: bool, both: u32, left: u32, right: u32) -> u32
     ensures { result ≡ spec.merged in_left in_right both left right }
 {
-    if in_left {
-        if in_right { both } else { left }
-    } else {
-        if in_right { right } else { 0 }
+    match (in_left, in_right) {
+        (true, true) => both,
+        (true, false) => left,
+        (false, true) => right,
+        (false, false) => 0,
     }
 }
 
@@ -77,10 +82,4 @@ fn digits_with(transforms: u32, digits: u32) -> u32
     ensures { result ≡ spec.digits_with transforms digits }
 {
     if bit(transforms, 2) { digits } else { 0 }
-}
-
-fn larger(a: u32, b: u32) -> u32
-    ensures { result ≡ max a b }
-{
-    if a < b { b } else { a }
 }

@@ -3,3 +3,4 @@ pub mod Word
 pub mod Stages
 pub mod WellFormed
 pub mod Answers
+pub mod Text

@@ -3,6 +3,7 @@
 
 mod fields;
 mod test;
+mod text;
 
 pub use fields::{bit, field};
 pub use test::{highest_stage, stage_count, well_formed, well_formed_from};

@@ -10,14 +10,14 @@ use super::fields::{bit, field};
 pub fn stage_count(word: u32) -> u32
     ensures { result ≡ stage_count word }
 {
-    u32::count_ones(word >> 28)
+    (word >> 28).count_ones()
 }
 
 // The highest stage of a word, by the zeros above it.
 pub fn highest_stage(word: u32) -> Highest
     ensures { result ≡ highest word }
 {
-    let above = u32::leading_zeros(word >> 28) - 28;
+    let above = (word >> 28).leading_zeros() - 28;
     match above {
         0 => Highest::H,
         1 => Highest::T,
@@ -65,6 +65,7 @@ pub fn well_formed_from(word: u32, least: u16) -> bool
 }
 
 // Whether a word is a label.
+#[tactic(auto, unfolding(crate::specs::WellFormed::well_formed))]
 pub fn well_formed(word: u32) -> bool
     ensures { result ≡ well_formed word }
 {

@@ -1,5 +1,5 @@
 -- `label_composition::composition::compose_words` meets its contract. Assumes nothing.
-use Rattle.label_composition.specs.Composition.{transforms_both, aggregates_both, noise_both, composed}
+use Rattle.label_composition.specs.Composition.{transforms_both, aggregates_both, noise_both}
 use Rattle.label_composition.proofs.Composed.{stages-lt, transforms-lt, noise-lt, aggregates-lt, digits_lt, minimum-lt}
 use Rattle.label_composition.proofs.composition.compose_words.Goals as goal
 
@@ -15,7 +15,3 @@ pack-requires c =
       rw c.digits_both.ensures (digits_lt a b),
       rw c.minimum_both.ensures (minimum-lt a b),
     )
-
-pub returns : goal.returns
-unfolding composed transforms_both noise_both aggregates_both
-returns c = rw (c.pack.ensures, c.minimum_both.ensures, c.digits_both.ensures, c.allowed_both-3.ensures, c.allowed_both-2.ensures, c.allowed_both.ensures, c.field-2.ensures, c.field.ensures)
