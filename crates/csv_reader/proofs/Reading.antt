@@ -11,15 +11,16 @@ use lib.IntN.{ℤ}
 use lib.ListN.{length, get_or, take, drop, set, length-append, length-drop, take-append-drop, drop_of_length-le}
 use lib.Seq.{take-nil, drop-cons, take_all, take-append-le}
 use borrow.Author.Tests.{eqb-true, ltb-true, ltb-false, le-leb, lt-leb}
+use Rattle.std.specs.Prelude.{Result, Ok, Err}
 use Rattle.cells.specs.promises.Written.{Written}
 use Rattle.cells.proofs.Written.{nothing_written, one_written}
 use Rattle.csv_text.specs.Text.{cut}
 use Rattle.csv_reader.specs.Reader.{Read, table, fails_at, is_digit, value_of, next_spot, ended, rows_ended, is_wrong, at_end, read_from, read_text}
 use Rattle.csv_reader.specs.promises.Reading.{concat, reading_of, values_after, stored, size_fits, pass_end, Passed}
-use Rattle.csv_reader.specs.declared.read.Pass.{Pass}
-use Rattle.csv_reader.specs.declared.read.Pass.TheVariants as pass
-use Rattle.csv_reader.specs.declared.read.TextReading.{TextReading}
-use Rattle.csv_reader.specs.declared.read.TextReading.TheVariants as reading
+use Rattle.csv_reader.specs.declared.read.Counts.{Counts}
+use Rattle.csv_reader.specs.declared.read.ReadingError.{ReadingError}
+use Rattle.csv_reader.specs.declared.read.ReadingError.TheVariants as reading
+use Rattle.csv_reader.specs.declared.read.TextTable.{TextTable}
 use Rattle.csv_reader.specs.declared.spot.Spot.{Spot}
 use Rattle.csv_reader.specs.declared.spot.Spot.TheVariants.{Names, Header, Value, Minus, Digits, Row, Wrong}
 use Rattle.csv_reader.proofs.Spots.{largest-most}
@@ -138,7 +139,7 @@ module _ {text : List ℕ} {fewest : ℕ} {old : List ℤ} {room : ℕ} {new : L
       }
 
   pub reads-stops : {then : Spot} {byte : ℕ} → i < length text → byte ≡ get_or text i 0 → then ≡ next_spot fewest spot byte → is_wrong then ≡ true
-      → Passed (read_from fewest (Names 0) [] 0 0 text) room old (pass.Wrong i) new
+      → Passed (read_from fewest (Names 0) [] 0 0 text) room old (Err (reading.Wrong i)) new
   reads-stops {then} {byte} h e t g =
       (s.values, s.same ∙ ap (read_from fewest spot s.values rows i) (byte-there h e) ∙ read-stops fewest spot s.values rows i byte (drop (suc i) text) (rw t at g), s.written)
 
@@ -149,7 +150,7 @@ ends_at (Names k) room values count rows i s c e w = (values, e, w)
 ends_at (Header columns) room values count rows i s c e w = (values, e, w)
 ends_at (Value columns left) {read} room {old} {new} values count rows i s c e w = go (eqb left columns) refl e
   where
-    go : (t : Bool) → eqb left columns ≡ t → read ≡ cond t (table columns (cut columns rows values)) (fails_at i) → Passed read room old (cond t (pass.Table columns rows count) (pass.Wrong i)) new
+    go : (t : Bool) → eqb left columns ≡ t → read ≡ cond t (table columns (cut columns rows values)) (fails_at i) → Passed read room old (cond t (Ok (record { columns = columns; rows = rows; count = count })) (Err (reading.Wrong i))) new
     go true f g = (values, g, omega (arith, eqb-true left columns f, s.3), c, w)
     go false f g = (values, g, w)
 ends_at (Minus columns left) room values count rows i s c e w = (values, e, w)
@@ -180,35 +181,37 @@ values_read : Read → List ℤ
 values_read (table columns rows) = concat rows
 values_read (fails_at place) = []
 
-abbrev pub Answers : Read → List ℤ → TextReading → List ℤ → Type 0
+abbrev pub Answers : Read → List ℤ → Result TextTable ReadingError → List ℤ → Type 0
 Answers read old answer new = (answer ≡ reading_of read (length old)) × (new ≡ values_after read old)
 
-module _ {read : Read} {old mid : List ℤ} where
-  pub fails-first : (place : ℕ) → Passed read 0 old (pass.Wrong place) mid → Answers read old (reading.Wrong place) mid
-  fails-first place p = rw p.1 (refl, p.2.is)
+pub fails-first : (read : Read) (old mid : List ℤ) (error : ReadingError) → Passed read 0 old (Err error) mid → Answers read old (Err error) mid
+fails-first read old mid (reading.Wrong place) p = rw p.1 (refl, p.2.is)
+fails-first read old mid reading.DoesNotFit p = absurd p
 
-  module _ (columns rows count : ℕ) (p : Passed read 0 old (pass.Table columns rows count) mid) where
+module _ {read : Read} {old mid : List ℤ} where
+  module _ (columns rows count : ℕ) (p : Passed read 0 old (Ok (record { columns = columns; rows = rows; count = count })) mid) where
     pub kept-first : mid ≡ old
     kept-first = p.4.is
 
     all-together : concat (cut columns rows p.0) ≡ p.0
     all-together = concat-cut columns rows p.0 p.2
 
-    pub no_room : length mid < count → Answers read old reading.DoesNotFit mid
+    pub no_room : length mid < count → Answers read old (Err reading.DoesNotFit) mid
     no_room h =
         let l : length old < length (concat (cut columns rows p.0)) = rw all-together (omega (arith, p.3, ap length kept-first)) in
         rw (p.1, lt-leb (length (concat (cut columns rows p.0))) (length old) l) (refl, kept-first)
 
-    same-values : {new : List ℤ} (again : Pass) → Passed read count mid again new → new ≡ p.0 ++ drop (length p.0) old
+    same-values : {new : List ℤ} (again : Result Counts ReadingError) → Passed read count mid again new → new ≡ p.0 ++ drop (length p.0) old
     unfolding values_read
-    same-values (pass.Table columns' rows' count') q =
-        let v : q.0 ≡ p.0 = sym (concat-cut columns' rows' q.0 q.2) ∙ ap values_read (sym q.1 ∙ p.1) ∙ all-together in
+    same-values (Ok found) q =
+        let v : q.0 ≡ p.0 = sym (concat-cut found.columns found.rows q.0 q.2) ∙ ap values_read (sym q.1 ∙ p.1) ∙ all-together in
         let t : take count q.0 ≡ p.0 = ap (take count) v ∙ take_all count p.0 (omega (arith, p.3)) in
         let z : 0 + length p.0 ≡ length p.0 = omega arith in
         rw (t, z, kept-first) at q.4.is
-    same-values (pass.Wrong place) q = let z : ◌≡◌ {A = ℕ} 0 1 = cc (p.1, q.1) in absurd (omega arith)
+    same-values (Err (reading.Wrong place)) q = let z : ◌≡◌ {A = ℕ} 0 1 = cc (p.1, q.1) in absurd (omega arith)
+    same-values (Err reading.DoesNotFit) q = absurd q
 
-    pub all_read : {new : List ℤ} (again : Pass) → count ≤ length mid → Passed read count mid again new → Answers read old (reading.Table columns rows) new
+    pub all_read : {new : List ℤ} (again : Result Counts ReadingError) → count ≤ length mid → Passed read count mid again new → Answers read old (Ok (record { columns = columns; rows = rows })) new
     all_read again h q =
         let l : length (concat (cut columns rows p.0)) ≤ length old = rw all-together (omega (arith, p.3, ap length kept-first)) in
         rw (p.1, le-leb (length (concat (cut columns rows p.0))) (length old) l, cut-length columns rows p.0, all-together) (refl, same-values again q)

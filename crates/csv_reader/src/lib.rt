@@ -4,4 +4,4 @@
 mod read;
 mod spot;
 
-pub use read::{TextReading, read_text};
+pub use read::{ReadingError, TextTable, read_text};

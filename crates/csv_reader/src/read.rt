@@ -5,48 +5,44 @@ ghost use Rattle.csv_reader.specs.promises.Reading.{reading_of, values_after, st
 
 use crate::spot::{Spot, is_digit, next};
 
-// What reading a text answers: a table of so many columns and rows; the first byte where the bytes can no longer be a text, or their length
-// if they are cut short; or that the slice has no room for the table's values.
-#[derive(Clone, Copy)]
-pub enum TextReading {
-    Table(usize, usize),
+// A table that a text has: its columns and its rows.
+#[derive(Clone, Copy, Debug, PartialEq, Eq)]
+pub struct TextTable {
+    pub columns: usize,
+    pub rows: usize,
+}
+
+// Why a text is not read: the first byte where the bytes can no longer be a text, or their length if they are cut short; or that the slice has no room
+// for the table's values.
+#[derive(Clone, Copy, Debug, PartialEq, Eq)]
+pub enum ReadingError {
     Wrong(usize),
     DoesNotFit,
 }
 
-// What a pass over the bytes finds: a table of so many columns, rows and values, or the place where the bytes fail.
+// What a pass over the bytes of a table counts: its columns, rows and values.
 #[derive(Clone, Copy)]
-enum Pass {
-    Table(usize, usize, usize),
-    Wrong(usize),
+struct Counts {
+    columns: usize,
+    rows: usize,
+    count: usize,
 }
 
+#[tactic(auto, unfolding(crate::specs::Reader::is_wrong))]
 fn is_wrong(spot: Spot) -> bool
     ensures { result ≡ is_wrong spot }
 {
-    match spot {
-        Spot::Wrong => true,
-        Spot::Names(_) => false,
-        Spot::Header(_) => false,
-        Spot::Value(_, _) => false,
-        Spot::Minus(_, _) => false,
-        Spot::Digits(_, _, _, _) => false,
-        Spot::Row(_) => false,
-    }
+    matches!(spot, Spot::Wrong)
 }
 
 // How many rows a byte ends.
+#[tactic(auto, unfolding(crate::specs::Reader::rows_ended))]
 fn rows_ended(spot: Spot) -> usize
     ensures { (result ≡ rows_ended spot) × (result ≤ 1) }
 {
     match spot {
         Spot::Row(_) => 1,
-        Spot::Names(_) => 0,
-        Spot::Header(_) => 0,
-        Spot::Value(_, _) => 0,
-        Spot::Minus(_, _) => 0,
-        Spot::Digits(_, _, _, _) => 0,
-        Spot::Wrong => 0,
+        _ => 0,
     }
 }
 
@@ -74,85 +70,77 @@ fn put_one(values: &mut [i64], room: usize, count: usize, value: i64) -> usize
 }
 
 // Writes the value that a byte ends, if it ends one and it is among the first `room`, and answers how many there are with it.
+#[tactic(auto, unfolding(crate::specs::Reader::ended))]
 fn put_ended(values: &mut [i64], room: usize, count: usize, spot: Spot, byte: u8) -> usize
     requires { (room ≤ length values.old) × (count < 2 ^ 63) × size_fits spot }
     ensures { (result ≡ count + length (ended spot byte)) × (values.new ≡ stored room count (ended spot byte) values.old) }
 {
-    match spot {
-        Spot::Names(_) => count,
-        Spot::Header(_) => count,
-        Spot::Value(_, _) => count,
-        Spot::Minus(_, _) => count,
-        Spot::Digits(_, _, negative, size) => {
-            if is_digit(byte) {
-                return count;
-            }
-            put_one(values, room, count, value_of(negative, size))
-        }
-        Spot::Row(_) => count,
-        Spot::Wrong => count,
+    let Spot::Digits(_, _, negative, size) = spot else {
+        return count;
+    };
+    if is_digit(byte) {
+        return count;
     }
+    put_one(values, room, count, value_of(negative, size))
 }
 
-fn at_end(spot: Spot, rows: usize, count: usize, place: usize) -> Pass
+// What a pass finds at the end of the bytes, at the place.
+fn at_end(spot: Spot, rows: usize, count: usize, place: usize) -> Result<Counts, ReadingError>
     ensures { result ≡ pass_end spot rows count place }
 {
     match spot {
-        Spot::Names(_) => Pass::Wrong(place),
-        Spot::Header(_) => Pass::Wrong(place),
-        Spot::Value(columns, left) => {
-            if left == columns {
-                return Pass::Table(columns, rows, count);
-            }
-            Pass::Wrong(place)
+        Spot::Value(columns, left) if left == columns => {
+            Ok(Counts {
+                columns,
+                rows,
+                count,
+            })
         }
-        Spot::Minus(_, _) => Pass::Wrong(place),
-        Spot::Digits(_, _, _, _) => Pass::Wrong(place),
-        Spot::Row(_) => Pass::Wrong(place),
-        Spot::Wrong => Pass::Wrong(place),
+        _ => Err(ReadingError::Wrong(place)),
     }
 }
 
-// Goes through the bytes once, and writes the first `room` values to the slice's start.
-fn go_through(text: &[u8], fewest: usize, values: &mut [i64], room: usize) -> Pass
+// Goes through the bytes once, and writes the first `room` values to the slice's start. Answers what it counts, or the place where the bytes fail.
+fn go_through(
+    text: &[u8],
+    fewest: usize,
+    values: &mut [i64],
+    room: usize,
+) -> Result<Counts, ReadingError>
     requires { room ≤ length values.old }
     ensures { Passed (read_from fewest (Spot.Names 0) [] 0 0 text.now) room values.old result values.new }
 {
     let mut spot = Spot::Names(0);
     let mut count = 0;
     let mut rows = 0;
-    let mut i = 0;
-    while i < text.len() {
-        let byte = text[i];
+    for (i, &byte) in text.iter().enumerate() {
         let then = next(fewest, spot, byte);
         if is_wrong(then) {
-            return Pass::Wrong(i);
+            return Err(ReadingError::Wrong(i));
         }
         count = put_ended(values, room, count, spot, byte);
         rows += rows_ended(spot);
         spot = then;
-        i += 1;
     }
-    at_end(spot, rows, count, i)
+    at_end(spot, rows, count, text.len())
 }
 
 // Reads a text of at least `fewest` columns: writes its values, row by row, to the slice's start. A first pass finds whether the bytes are a
 // text and how many values it has, and a second one writes them. Where the bytes are no text, or the slice is too short, it changes nothing.
-pub fn read_text(text: &[u8], fewest: usize, values: &mut [i64]) -> TextReading
+pub fn read_text(text: &[u8], fewest: usize, values: &mut [i64]) -> Result<TextTable, ReadingError>
     ensures value { result ≡ reading_of (read_text fewest text.now) (length values.old) }
     ensures values_after { values.new ≡ values_after (read_text fewest text.now) values.old }
 {
     if 8 < fewest {
-        return TextReading::Wrong(0);
+        return Err(ReadingError::Wrong(0));
     }
-    match go_through(text, fewest, values, 0) {
-        Pass::Wrong(place) => TextReading::Wrong(place),
-        Pass::Table(columns, rows, count) => {
-            if values.len() < count {
-                return TextReading::DoesNotFit;
-            }
-            go_through(text, fewest, values, count);
-            TextReading::Table(columns, rows)
-        }
+    let found = go_through(text, fewest, values, 0)?;
+    if values.len() < found.count {
+        return Err(ReadingError::DoesNotFit);
     }
+    let _ = go_through(text, fewest, values, found.count);
+    Ok(TextTable {
+        columns: found.columns,
+        rows: found.rows,
+    })
 }

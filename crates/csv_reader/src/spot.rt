@@ -7,6 +7,7 @@ use csv_text::{end_byte, name_byte};
 
 // Behind so many bytes of the names; behind the CR of a header of so many columns; in a row of so many columns, of which so many are left:
 // before a value, behind its minus sign, or behind digits of it, with its sign and its size so far; behind the CR of a row; nowhere in a text.
+// `Wrong` stays in place of an `Option`: it is a state of the definition `next_spot`.
 #[derive(Clone, Copy)]
 pub enum Spot {
     Names(usize),

@@ -1,11 +1,6 @@
 -- `csv_reader::read::go_through` meets its contract. Assumes nothing.
-use Prim.Native.Nat.{◌-◌}
-use lib.ListN.{length}
 use Rattle.csv_reader.proofs.Reading.{Reads}
 use Rattle.csv_reader.proofs.read.go_through.Given as goal
 
 abbrev pub invariant-loop-i : goal.invariant-loop-i
 invariant-loop-i l = Reads l.text l.fewest l.initial.values l.room l.values l.spot l.count l.rows l.i
-
-abbrev pub decreases-loop-i : goal.decreases-loop-i
-decreases-loop-i l = length l.text - l.i
