@@ -2,15 +2,16 @@
 #![tactic(auto)]
 
 ghost use Rattle.std.specs.Prelude.{◌≡◌, ◌+◌, ◌^◌, ◌<◌};
-ghost use Rattle.input.specs.promises.Checks.{input_says};
+ghost use Rattle.input.specs.Answers.{input_says};
 ghost use Rattle.overlay_part.specs.Labels as spec;
 ghost use Rattle.overlay_part.specs.OverlayPart.{part_fits};
 
-use input::{InputCheck, InputRefusal};
+use input::InputRefusal;
 use little_endian::{byte, four, two};
 use table_part::cell_count;
 
 // Whether the header of an overlay's part is the table's, and it has a label for each cell.
+#[tactic(auto, unfolding(crate::specs::OverlayPart::part_fits))]
 pub fn part_fits(table: &[u8], part: &[u8]) -> bool
     ensures { result ≡ part_fits table.now part.now }
 {
@@ -21,39 +22,32 @@ pub fn part_fits(table: &[u8], part: &[u8]) -> bool
 }
 
 // 22: the first label of a part that is ill-formed, or not zero in the column of sheet numbers. The part begins at `at`.
-pub fn check_labels(part: &[u8], at: u32) -> InputCheck
+#[tactic(auto, using(crate::proofs::RowsLeft::after_row))]
+pub fn check_labels(part: &[u8], at: u32) -> Result<(), InputRefusal>
     ensures { input_says result ≡ spec.check_labels part.now at }
 {
     let rows = two(part, 2) as usize;
     let columns = byte(part, 0) as usize;
-    let mut cell = 0;
-    let mut row = 0;
-    while row < rows {
-        let found = check_row(part, at as usize, cell, columns);
-        let InputCheck::Accepted = found else {
-            return found;
-        };
-        cell += columns;
-        row += 1;
+    for row in 0..rows {
+        check_row(part, at as usize, row * columns, columns)?;
     }
-    InputCheck::Accepted
+    Ok(())
 }
 
 // The same of the row of so many columns that begins with a cell.
-fn check_row(part: &[u8], at: usize, first: usize, columns: usize) -> InputCheck
+#[tactic(auto, using(crate::proofs::RowsLeft::after_label))]
+fn check_row(part: &[u8], at: usize, first: usize, columns: usize) -> Result<(), InputRefusal>
     requires { (at < 2 ^ 32) × (first < 2 ^ 32) × (columns < 256) }
     ensures { input_says result ≡ spec.check_row part.now at first 0 columns }
 {
     let sheets = byte(part, 1) as usize;
-    let mut column = 0;
-    while column < columns {
+    for column in 0..columns {
         let place = 4 + 4 * (first + column);
         if !label_fits(sheets, column, four(part, place)) {
-            return InputCheck::Refused(InputRefusal::OverlayLabel(at + place));
+            return Err(InputRefusal::OverlayLabel(at + place));
         }
-        column += 1;
     }
-    InputCheck::Accepted
+    Ok(())
 }
 
 // Whether a label may stand in a column.
