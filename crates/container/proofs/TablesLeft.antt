@@ -1,20 +1,16 @@
 -- The check of a container's tables, at one table, and their widths. Assumes nothing.
-use Prim.Native.Nat.{ℕ, zero, suc, ◌+◌, ◌-◌, ◌≤◌, ◌<◌}
+use Prim.Native.Nat.{ℕ, zero, suc, ◌+◌, ◌-◌, ◌<◌}
 use mathlib.Core.Path.{◌≡◌, refl, sym, ap, ◌∙◌}
 use mathlib.Core.List.{List, [], ◌∷◌, ◌++◌}
 use native.Mathlib.Nat.{add-zero, add-suc, suc-add}
 use native.Mathlib.Numerals.{add-one}
-use native.Mathlib.Omega.{arith}
 use lib.ListN.{length, take}
-use Rattle.container.specs.Check.{accepted, input_says, check_tables, table_widths}
+use Rattle.container.specs.Check.{accepted, check_tables, table_widths}
 use Rattle.input.specs.Verdict.{and_then}
-use Rattle.input.specs.declared.InputCheck.{InputCheck}
-use Rattle.input.specs.declared.InputCheck.TheVariants as check
-use Rattle.input.specs.declared.InputRefusal.{InputRefusal}
 use Rattle.layout.specs.Layout.{offset_of, part_of}
 use Rattle.table_check.specs.Checks.{check_table}
 use Rattle.table_part.specs.TablePart.{columns_of}
-use Rattle.input.proofs.Laws.{stands, one_left}
+use Rattle.input.proofs.Laws.{one_left}
 
 -- the tables before one are as they should be: what is left of the check
 pub record Tables (least : ℕ) (bytes : List ℕ) (count index : ℕ) : Type 0 where
@@ -28,15 +24,8 @@ module _ {least : ℕ} {bytes : List ℕ} {count index : ℕ} (p : Tables least 
       → check_tables least bytes 1 (count - 1) ≡ and_then (check_table least (part_of bytes index) (offset_of bytes index)) (check_tables least bytes (suc index) (count - suc index))
   table-left h = p.left ∙ rw (one_left index count h)
 
-  module _ (r : InputCheck) (h : index < count) (e : input_says r ≡ check_table least (part_of bytes index) (offset_of bytes index)) where
-    pub stopped : {why : InputRefusal} → r ≡ check.Refused why → input_says r ≡ check_tables least bytes 1 (count - 1)
-    stopped k = rw (table-left h, ← e) (sym (stands r (check_tables least bytes (suc index) (count - suc index)) k))
-
-    pub keep : r ≡ check.Accepted → Tables least bytes count (index + 1)
-    keep k = record { left = rw (table-left h, ← e, k, add-one index) }
-
-  pub finish : count ≤ index → accepted ≡ check_tables least bytes 1 (count - 1)
-  finish h = let z : count - index ≡ 0 = omega arith in rw (p.left, z)
+  pub keep : index < count → accepted ≡ check_table least (part_of bytes index) (offset_of bytes index) → Tables least bytes count (index + 1)
+  keep h e = record { left = rw (table-left h, ← e, add-one index) }
 
 -- one width more
 pub widths-more : (bytes : List ℕ) (part n : ℕ) → table_widths bytes part (suc n) ≡ table_widths bytes part n ++ (columns_of (part_of bytes (part + n)) ∷ [])

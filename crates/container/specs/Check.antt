@@ -9,9 +9,8 @@ use Rattle.layout_check.specs.Checks.{check_container}
 use Rattle.plan_check.specs.PlanCheck.{check_plan}
 use Rattle.table_check.specs.Checks.{check_table}
 use Rattle.table_part.specs.TablePart.{columns_of}
-pub use Rattle.input.specs.Answers.{input_refusal_says}
+pub use Rattle.input.specs.Answers.{input_refusal_says, input_says}
 pub use Rattle.input.specs.Verdict.{InputVerdict, accepted, rejected}
-pub use Rattle.input.specs.promises.Checks.{input_says}
 
 abbrev pub check_tables : ℕ → List ℕ → ℕ → ℕ → InputVerdict
 check_tables least bytes part zero = accepted

@@ -1,19 +1,17 @@
 -- What an accepted container holds: its plan and its tables.
-use Rattle.std.specs.Prelude.{ℕ, zero, suc, ◌-◌, List, [], ◌∷◌}
+use Rattle.std.specs.Prelude.{ℕ, zero, suc, ◌-◌, List, [], ◌∷◌, Option, Some, None}
 use Rattle.layout.specs.Layout.{part_count, part_of}
 use Rattle.plan.specs.Sheets.{InputTable, all_with_marks}
 use Rattle.plan.specs.Table.{Table}
 use Rattle.plan.specs.declared.Step.{Step}
 use Rattle.plan_part.specs.PlanPart.{step_count}
 use Rattle.records.specs.Record.{fields_at, step_of}
-use Rattle.records.specs.declared.Found.{Found}
-use Rattle.records.specs.declared.Found.TheVariants as found
 use Rattle.table_part.specs.TablePart.{table_of}
 
 -- a record without a step adds none
-abbrev pub put : Found → List Step → List Step
-put (found.Step step) later = step ∷ later
-put found.Nothing later = later
+abbrev pub put : Option Step → List Step → List Step
+put (Some step) later = step ∷ later
+put None later = later
 
 abbrev pub steps_from : List ℕ → ℕ → ℕ → List Step
 steps_from part step zero = []

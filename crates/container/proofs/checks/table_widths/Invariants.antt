@@ -1,12 +1,8 @@
 -- `container::checks::table_widths` meets its contract. Assumes nothing.
-use Prim.Native.Nat.{◌-◌, ◌≤◌}
 use mathlib.Core.Path.{◌≡◌}
 use lib.ListN.{length, take}
 use Rattle.container.specs.Check.{table_widths}
 use Rattle.container.proofs.checks.table_widths.Given as goal
 
 abbrev pub invariant-loop-index : goal.invariant-loop-index
-invariant-loop-index l = (l.index ≤ l.count) × (length l.widths ≡ 8) × (take l.index l.widths ≡ table_widths l.container 1 l.index)
-
-abbrev pub decreases-loop-index : goal.decreases-loop-index
-decreases-loop-index l = l.count - l.index
+invariant-loop-index l = (length l.widths ≡ 8) × (take l.index l.widths ≡ table_widths l.container 1 l.index)
