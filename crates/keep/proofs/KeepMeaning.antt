@@ -9,7 +9,7 @@ use borrow.Author.Tests.{leb-true}
 use Rattle.cells.specs.promises.Work.{Work, Memory, cells_in, mark_room}
 use Rattle.live_tables.specs.declared.LiveTable.{LiveTable}
 use Rattle.live_tables.specs.declared.Stack.{Stack}
-use Rattle.memory.specs.declared.StepAnswer.TheVariants.{Made}
+use Rattle.std.specs.Prelude.{Ok}
 use Rattle.memory.specs.promises.Stack.{Ready, mark_part, stack_in, widths_to, with_table, live_table, rows_in, marked_in, Inside}
 use Rattle.memory.specs.promises.Steps.{fits, fits_in, Done}
 use Rattle.plan.specs.Keep.{kept_count, kept_cells, kept_row, kept}
@@ -51,7 +51,7 @@ kept-marks mask columns (row ∷ rows) = ap (λ (l : List ℕ). row.mark ∷ l) 
 
 pub keep-made : (mask : ℕ) (supply : Supply) (m : Memory) (stack : Stack) {top : LiveTable} {width : ℕ} → mark_room ≤ length m.marks → fits_in (Keep mask) supply m stack ≡ true
     → KeepFits mask (length m.work.values) (length m.work.labels) stack top width → {after : Work} → RowsKept mask top m.work after
-    → Done (Keep mask) supply m stack (record { answer = Made; stack = with_table stack top.slot width top.rows }) (record { work = after; marks = m.marks })
+    → Done (Keep mask) supply m stack (Ok (with_table stack top.slot width top.rows)) (record { work = after; marks = m.marks })
 unfolding make kept check too_many
 keep-made mask supply m stack {top} {width} room t f {after} k =
     let columns = top.columns in

@@ -7,28 +7,23 @@ ghost use Rattle.memory.specs.promises.Stack.{Inside};
 ghost use Rattle.memory.specs.promises.Steps.{Done, Unmoved};
 ghost use Rattle.keep.specs.promises.Keeping as here;
 
-use memory::{LiveTable, Stack, StepAnswer, Stepped};
+use memory::{LiveTable, Stack, StepError};
 use plan::Step;
-use widths::Width;
 
 // Keeps the columns of the top table that are in the mask.
-pub fn keep(values: &mut [i64], labels: &mut [u32], stack: Stack, mask: u32) -> Stepped
+pub fn keep(
+    values: &mut [i64],
+    labels: &mut [u32],
+    stack: Stack,
+    mask: u32,
+) -> Result<Stack, StepError>
     ensures { (supply : Supply) → Unmoved (λ before after. Done (Keep mask) supply before stack result after)
         (work values.old labels.old) (work values.new labels.new) }
 {
-    let step = Step::Keep { mask };
-    let Width::Columns(columns) = memory::fit(values.len(), labels.len(), stack, step) else {
-        return Stepped {
-            answer: StepAnswer::DoesNotFit,
-            stack: stack,
-        };
-    };
+    let columns = memory::fit(values.len(), labels.len(), stack, Step::Keep { mask })?;
     let top = memory::live_table(stack, 0);
     keep_rows(values, labels, top, mask);
-    Stepped {
-        answer: StepAnswer::Made,
-        stack: memory::with_table(stack, top.slot, columns, top.rows),
-    }
+    Ok(memory::with_table(stack, top.slot, columns, top.rows))
 }
 
 // Moves the kept cells of each row to the front.
@@ -36,13 +31,10 @@ fn keep_rows(values: &mut [i64], labels: &mut [u32], top: LiveTable, mask: u32)
     requires { Inside top (length values.old) (length labels.old) }
     ensures { here.RowsKept mask top (work values.old labels.old) (work values.new labels.new) }
 {
-    let mut from = top.at;
     let mut to = top.at;
-    let mut row = 0;
-    while row < top.rows {
+    for row in 0..top.rows {
+        let from = top.at + row * top.columns;
         to = keep_row(values, labels, from, to, top.columns, mask);
-        from += top.columns;
-        row += 1;
     }
 }
 
@@ -61,14 +53,12 @@ fn keep_row(
         (work values.new labels.new) }
 {
     let mut next = to;
-    let mut column = 0;
-    while column < columns {
+    for column in 0..columns {
         if (mask >> column) % 2 == 1 {
             values[next] = values[from + column];
             labels[next] = labels[from + column];
             next += 1;
         }
-        column += 1;
     }
     next
 }

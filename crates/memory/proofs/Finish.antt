@@ -14,7 +14,7 @@ use Rattle.plan.specs.Table.{Cell, flat, Each, Row, Table, rows_of}
 use Rattle.cells.specs.promises.Search.{says, unfit}
 use Rattle.cells.specs.promises.Work.{Work, Memory, cells_in, mark_room, Kept, MarksKept, AllKept}
 use Rattle.cells.specs.promises.Written.{Written, CellsWritten}
-use Rattle.std.specs.Prelude.{Ok, Err}
+use Rattle.std.specs.Prelude.{Result, Ok, Err, IsErrAnd}
 use Rattle.cells.specs.declared.DoesNotFit.{DoesNotFit}
 use Rattle.memory.specs.Refusals.{refusal_tells}
 use Rattle.memory.specs.declared.Refusal.{Refusal}
@@ -49,6 +49,11 @@ clash t f = absurd (true≢false (sym t ∙ f))
 pub fine-parts : (b : Bool) {v : Verdict} → says fine ≡ cond b (says v) unfit → (b ≡ true) × (v ≡ fine)
 fine-parts true e = (refl, sym (says_is e))
 fine-parts false e = absurd (never-unfit (sym e))
+
+-- what a `?` answers, or an error made by `into`
+pub error-is : {A : Type 0} {done : Result A StepError} {wrong : StepError} → IsErrAnd done (λ found. found ≡ wrong) → done ≡ Err wrong
+error-is {done = Ok made} e = absurd e
+error-is {done = Err found} e = ap Err e
 
 -- what a test of the arguments found
 pub columns-fit : (b : Bool) (m : ℕ) {n : ℕ} {wrong : DoesNotFit} → cond b (Ok m) (Err wrong) ≡ Ok n → (b ≡ true) × (n ≡ m)
