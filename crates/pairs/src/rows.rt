@@ -22,32 +22,17 @@ pub fn join_all(
     ensures { spec.Joined left right (memory_of values.old labels.old marks.old) result
         (memory_of values.new labels.new marks.new) }
 {
-    let rows = left.rows;
     let mut made = 0;
-    let mut row = 0;
-    while row < rows {
+    for row in 0..left.rows {
         let count = join_row(values, labels, left, right, row, made);
         if 256 < count {
             return count;
         }
         let mark = marks[left.marks + row];
-        fill(marks, mark, LAST_MARKS + made, count - made);
+        marks[LAST_MARKS + made..LAST_MARKS + count].fill(mark);
         made = count;
-        row += 1;
     }
     made
-}
-
-// Writes a mark so many times from a place on.
-fn fill(marks: &mut [u64], mark: u64, at: usize, count: usize)
-    requires { at + count ≤ length marks.old }
-    ensures { Written marks.old at (replicate count mark) marks.new }
-{
-    let mut written = 0;
-    while written < count {
-        marks[at + written] = mark;
-        written += 1;
-    }
 }
 
 // Makes the rows of one left row after the `made` rows before, and answers how many there are then: 257 if more than 256.
@@ -93,15 +78,12 @@ fn unlike(values: &[i64], key: i64, place: usize, step: usize, count: usize) -> 
     requires { (step ≤ 8) × (place + count * step < length values.now + step) }
     ensures { (result ≤ count) × ((j : ℕ) → j < result → eq_z key (get_or values.now (place + j * step) (pos 0)) ≡ false) }
 {
-    let mut i = unlike_fours(values, key, place, step, count);
-    let mut at = place + i * step;
-    while i < count {
-        let is_key = key == values[at];
+    let passed = unlike_fours(values, key, place, step, count);
+    for i in passed..count {
+        let is_key = key == values[place + i * step];
         if is_key {
             return i;
         }
-        at += step;
-        i += 1;
     }
     count
 }
@@ -111,16 +93,13 @@ fn unlike_fours(values: &[i64], key: i64, place: usize, step: usize, count: usiz
     requires { (step ≤ 8) × (place + count * step < length values.now + step) }
     ensures { (result ≤ count) × ((j : ℕ) → j < result → eq_z key (get_or values.now (place + j * step) (pos 0)) ≡ false) }
 {
-    let mut at = place;
-    let mut i = 0;
-    while 4 <= count - i {
-        if among_four(values, key, at, step) {
-            return i;
+    let fours = count / 4;
+    for four in 0..fours {
+        if among_four(values, key, place + 4 * four * step, step) {
+            return 4 * four;
         }
-        at += 4 * step;
-        i += 4;
     }
-    i
+    4 * fours
 }
 
 // Whether one of four values, from a place on and `step` apart, is `key`.

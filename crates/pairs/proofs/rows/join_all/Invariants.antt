@@ -1,5 +1,5 @@
 -- `pairs::rows::join_all` meets its contract. The rows of the first left rows are made, and their marks are written. Assumes nothing.
-use Prim.Native.Nat.{◌-◌, ◌≤◌}
+use Prim.Native.Nat.{◌≤◌}
 use Rattle.cells.specs.promises.Work.{work, memory_of}
 use Rattle.cells.specs.promises.Written.{Written}
 use Rattle.memory.specs.promises.Stack.{last_marks}
@@ -9,8 +9,5 @@ use Rattle.pairs.proofs.rows.join_all.Given as goal
 
 abbrev pub invariant-loop-row : goal.invariant-loop-row
 invariant-loop-row l =
-    (l.row ≤ l.left.rows) × (l.made ≤ 256) × Lefts l.left l.right (work l.initial.values l.initial.labels) l.row l.made (work l.values l.labels)
+    (l.made ≤ 256) × Lefts l.left l.right (work l.initial.values l.initial.labels) l.row l.made (work l.values l.labels)
     × Written l.initial.marks last_marks (marks_of (memory_of l.initial.values l.initial.labels l.initial.marks) l.left l.right l.row) l.marks
-
-abbrev pub decreases-loop-row : goal.decreases-loop-row
-decreases-loop-row l = l.left.rows - l.row

