@@ -11,9 +11,9 @@ ghost use Rattle.memory.specs.promises.Steps.{step_says};
 ghost use Rattle.plan.specs.Verdict.{first_row};
 ghost use Rattle.group_refusal.specs.promises.Refusals as spec;
 
-use cells::Place;
-use label::LabelAnswer;
-use memory::{LiveTable, Refusal, StepAnswer};
+use cells::At;
+use label::LabelRefusal;
+use memory::{LiveTable, Refusal, StepError};
 use plan::Aggregate;
 
 // The refusal: 31 over all keys, then 32 over the column that is aggregated. A table that is not within the labels or does not have the
@@ -24,34 +24,35 @@ pub fn refusal(
     keys: u32,
     aggregate: Aggregate,
     column: usize,
-) -> StepAnswer
+) -> Result<(), StepError>
     ensures { step_says result ≡ spec.group_says labels.now table keys column }
 {
     if !search::column_formed(labels, table.at, table.rows, table.columns, column) {
-        return StepAnswer::DoesNotFit;
+        return Err(StepError::DoesNotFit);
     }
-    match search::not_clear(labels, table.at, table.rows, table.columns, keys) {
-        Place::At(row, key) => StepAnswer::Refused(Refusal::NotClear(row, key)),
-        Place::DoesNotFit => StepAnswer::DoesNotFit,
-        Place::Nowhere => forbidden(labels, table, aggregate, column),
+    if let Some(at) = search::not_clear(labels, table.at, table.rows, table.columns, keys)? {
+        return Err(StepError::Refused(Refusal::NotClear(at)));
     }
+    forbidden(labels, table, aggregate, column)
 }
 
 // The first row whose label in the column forbids the aggregate.
-fn forbidden(labels: &[u32], table: LiveTable, aggregate: Aggregate, column: usize) -> StepAnswer
+fn forbidden(
+    labels: &[u32],
+    table: LiveTable,
+    aggregate: Aggregate,
+    column: usize,
+) -> Result<(), StepError>
     requires { column_formed_at labels.now table.at table.rows table.columns column ≡ true }
     ensures { step_says result ≡ says (first_row (spec.forbids_at column) 0 (labels_in labels.now table)) }
 {
-    let mut from = table.at;
-    let mut row = 0;
-    while row < table.rows {
-        if forbids(labels[from + column], aggregate) {
-            return StepAnswer::Refused(Refusal::Forbidden(row, column));
+    for row in 0..table.rows {
+        let label = labels[table.at + row * table.columns + column];
+        if forbids(label, aggregate) {
+            return Err(StepError::Refused(Refusal::Forbidden(At { row, column })));
         }
-        from += table.columns;
-        row += 1;
     }
-    StepAnswer::Made
+    Ok(())
 }
 
 // Whether a label forbids an aggregate, as the label library answers. It forbids every aggregate, over a group of any size, or none.
@@ -59,8 +60,6 @@ fn forbids(word: u32, aggregate: Aggregate) -> bool
     requires { well_formed word ≡ true }
     ensures { result ≡ forbids_a word }
 {
-    match label::discharge_aggregate(word, operations::aggregate_code(aggregate), 1) {
-        LabelAnswer::Forbidden => true,
-        _ => false,
-    }
+    let code = operations::aggregate_code(aggregate);
+    label::discharge_aggregate(word, code, 1) == Err(LabelRefusal::Forbidden)
 }

@@ -2,6 +2,7 @@
 use mathlib.Core.Path.{◌≡◌, sym, ap, ◌∙◌}
 use mathlib.Core.Bool.{true}
 use native.Mathlib.Nat.{zero-add}
+use Rattle.std.specs.Prelude.{Ok}
 use Rattle.cells.specs.promises.Labelled.{column_formed_at}
 use Rattle.cells.specs.promises.Search.{says, place_says}
 use Rattle.memory.specs.declared.Refusal.TheVariants.{NotClear}
@@ -27,24 +28,19 @@ keys c =
     let a = c.args in
     c.not_clear.ensures 31 0 ∙ rw (formed-table a.labels.now a.table a.column (fits-at-After-not_clear c)).is
 
-pub returns-then-not-column_formed : goal.returns-then-not-column_formed
-returns-then-not-column_formed c = rw (sym c.column_formed.ensures ∙ c.if-not-column_formed.true)
+pub returns-in_err-at : goal.returns-in_err-at
+returns-in_err-at c = absurd (never-unfit (sym (ap (place_says 31 0) c.in_err-at.was) ∙ keys (goal.at.returns-in_err-at c).After-not_clear))
 
-pub forbidden-requires : goal.forbidden-requires
-forbidden-requires c = fits (goal.at.forbidden-requires c).Else-not-column_formed
-
-pub returns-in-At : goal.returns-in-At
+pub returns-in-Some : goal.returns-in-Some
 unfolding check_group
-returns-in-At c =
-    let row = c.in-At.row in
-    let column = c.in-At.key in
-    rw (fits (goal.at.returns-in-At c).Else-not-column_formed)
-    (refusal-stands (NotClear row column) _ (ap (λ n. says (refused 31 n column)) (sym (zero-add row)) ∙ sym (ap (place_says 31 0) c.in-At.is) ∙ keys (goal.at.returns-in-At c).After-not_clear))
+returns-in-Some c =
+    let row = c.in-Some.at.row in
+    let answer = c.in_ok-at.was ∙ ap Ok c.in-Some.is in
+    rw (fits (goal.at.returns-in-Some c).Else-not-column_formed)
+    (refusal-stands (NotClear c.in-Some.at) _ (ap (λ n. says (refused 31 n c.in-Some.at.column)) (sym (zero-add row)) ∙ sym (ap (place_says 31 0) answer) ∙ keys (goal.at.returns-in-Some c).After-not_clear))
 
-pub returns-in-DoesNotFit : goal.returns-in-DoesNotFit
-returns-in-DoesNotFit c = absurd (never-unfit (sym (ap (place_says 31 0) c.in-DoesNotFit.is) ∙ keys (goal.at.returns-in-DoesNotFit c).After-not_clear))
-
-pub returns-in-Nowhere : goal.returns-in-Nowhere
+pub returns : goal.returns
 unfolding check_group
-returns-in-Nowhere c =
-    rw (fits (goal.at.returns-in-Nowhere c).Else-not-column_formed) (c.forbidden.ensures ∙ ap says (sym (goes_on _ (sym (ap (place_says 31 0) c.in-Nowhere.is) ∙ keys (goal.at.returns-in-Nowhere c).After-not_clear))))
+returns c =
+    let answer = c.in_ok-at.was ∙ ap Ok c.in_default.is in
+    rw (fits (goal.at.returns c).Else-not-column_formed) (c.forbidden.ensures ∙ ap says (sym (goes_on _ (sym (ap (place_says 31 0) answer) ∙ keys (goal.at.returns c).After-not_clear))))
