@@ -10,6 +10,7 @@ use little_endian::four;
 
 // Composes the labels that an overlay has for the container's table with this number onto those of the table of so many rows and columns that stands at a
 // place. Where the overlay is empty, or there is no such table within the labels, nothing changes.
+#[tactic(auto, unfolding(crate::specs::promises::Composing::after_overlay))]
 pub fn compose_labels(
     overlay: &[u8],
     table: usize,
@@ -20,7 +21,7 @@ pub fn compose_labels(
 )
     ensures { labels.new ≡ spec.after_overlay overlay.now table at rows columns labels.old }
 {
-    if overlay.len() == 0 {
+    if overlay.is_empty() {
         return;
     }
     if !table_within(at, rows, columns, labels.len()) {
@@ -30,19 +31,19 @@ pub fn compose_labels(
 }
 
 // Composes the first labels of a part onto so many from a place on.
+#[tactic(auto, using(crate::proofs::Composing::label_composed))]
 fn compose_part(part: &[u8], labels: &mut [u32], at: usize, count: usize)
     requires { (at + count ≤ length labels.old) × (count ≤ 2048) }
     ensures { labels.new ≡ spec.composed_at part.now at count labels.old }
 {
-    let mut cell = 0;
-    while cell < count {
-        let to = at + cell;
-        labels[to] = composed(labels[to], four(part, 4 + 4 * cell));
-        cell += 1;
+    let table = &mut labels[at..at + count];
+    for (cell, label) in table.iter_mut().enumerate() {
+        *label = composed(*label, four(part, 4 + 4 * cell));
     }
 }
 
 // The composition of two labels; a word that is none, or meets none, stays. Most labels of an overlay are clear, and a clear one changes nothing.
+#[tactic(auto, using(crate::proofs::Composing::with_clear))]
 fn composed(label: u32, other: u32) -> u32
     ensures { result ≡ spec.composed_or label other }
 {
