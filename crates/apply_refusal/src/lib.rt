@@ -11,48 +11,48 @@ ghost use Rattle.label_words.specs.WellFormed.{well_formed};
 ghost use Rattle.memory.specs.promises.Stack.{labels_in};
 ghost use Rattle.memory.specs.promises.Steps.{step_says};
 ghost use Rattle.plan.specs.Apply.{operand_clear, second_clear, apply_row, check_apply};
-ghost use Rattle.plan.specs.Verdict.{Verdict, or_else, refuse_if};
+ghost use Rattle.plan.specs.Verdict.{refuse_if};
 ghost use Rattle.apply_refusal.specs.promises.Refusals.{apply_says};
 
-use label::LabelAnswer;
-use memory::{LiveTable, Refusal, StepAnswer};
+use cells::At;
+use label::LabelRefusal;
+use memory::{LiveTable, Refusal, StepError};
 use operations::{digits_of, transform_code};
 use plan::{Operand, Transform};
 
 // The first refusal, row by row. An operation that does not exist, a table that is not within the labels or does not have the column, and
 // labels in the column that are not well-formed, do not fit. A second operand of a column that the table does not have is clear.
-pub fn refusal(labels: &[u32], table: LiveTable, column: usize, transform: Transform) -> StepAnswer
+pub fn refusal(
+    labels: &[u32],
+    table: LiveTable,
+    column: usize,
+    transform: Transform,
+) -> Result<(), StepError>
     ensures { step_says result ≡ apply_says labels.now table column transform }
 {
     let formed = search::column_formed(labels, table.at, table.rows, table.columns, column);
     if !(operations::operation_fits(transform) & formed) {
-        return StepAnswer::DoesNotFit;
+        return Err(StepError::DoesNotFit);
     }
     rows_refusal(labels, table, column, transform)
 }
 
 // The same of labels that are well-formed and an operation that exists.
-fn rows_refusal(labels: &[u32], table: LiveTable, column: usize, transform: Transform) -> StepAnswer
+fn rows_refusal(
+    labels: &[u32],
+    table: LiveTable,
+    column: usize,
+    transform: Transform,
+) -> Result<(), StepError>
     requires column_value { column_formed_at labels.now table.at table.rows table.columns column ≡ true }
     requires transform_value { operation_fits transform ≡ true }
     ensures { step_says result ≡ says (check_apply column transform (labels_in labels.now table)) }
 {
-    let mut from = table.at;
-    let mut row = 0;
-    while row < table.rows {
-        match row_refusal(labels, from, table.columns, row, column, transform) {
-            StepAnswer::Made => {}
-            StepAnswer::Refused(refusal) => {
-                return StepAnswer::Refused(refusal);
-            }
-            StepAnswer::DoesNotFit => {
-                return StepAnswer::DoesNotFit;
-            }
-        }
-        from += table.columns;
-        row += 1;
+    for row in 0..table.rows {
+        let from = table.at + row * table.columns;
+        row_refusal(labels, from, table.columns, row, column, transform)?;
     }
-    StepAnswer::Made
+    Ok(())
 }
 
 // The refusal of one row, whose first label stands at `from`: by its first operand, and then by its second.
@@ -63,26 +63,29 @@ fn row_refusal(
     row: usize,
     column: usize,
     transform: Transform,
-) -> StepAnswer
+) -> Result<(), StepError>
     requires column_lt_columns { (column < columns) × (from + columns ≤ length labels.now) }
     requires column_value { (well_formed (get_or labels.now (from + column) 0) ≡ true) × (operation_fits transform ≡ true) }
     ensures { step_says result ≡ says (apply_row column transform row (take columns (drop from labels.now))) }
 {
-    let first = first_refusal(labels[from + column], row, column, transform);
-    let second = second_refusal(labels, from, columns, row, transform);
-    earlier(first, second)
+    first_refusal(labels[from + column], row, column, transform)?;
+    second_refusal(labels, from, columns, row, transform)
 }
 
 // 32 in one row.
-fn first_refusal(word: u32, row: usize, column: usize, transform: Transform) -> StepAnswer
+fn first_refusal(
+    word: u32,
+    row: usize,
+    column: usize,
+    transform: Transform,
+) -> Result<(), StepError>
     requires { (well_formed word ≡ true) × (operation_fits transform ≡ true) }
     ensures { step_says result ≡ says (refuse_if (forbids_t word) 32 row column) }
 {
     if forbidden(word, transform) {
-        StepAnswer::Refused(Refusal::Forbidden(row, column))
-    } else {
-        StepAnswer::Made
+        return Err(StepError::Refused(Refusal::Forbidden(At { row, column })));
     }
+    Ok(())
 }
 
 // Whether the transform is forbidden on a label.
@@ -90,10 +93,8 @@ fn forbidden(word: u32, transform: Transform) -> bool
     requires { (well_formed word ≡ true) × (operation_fits transform ≡ true) }
     ensures { result ≡ forbids_t word }
 {
-    match label::discharge_transform(word, transform_code(transform), digits_of(transform)) {
-        LabelAnswer::Forbidden => true,
-        _ => false,
-    }
+    let left = label::discharge_transform(word, transform_code(transform), digits_of(transform));
+    left == Err(LabelRefusal::Forbidden)
 }
 
 // 33 in one row.
@@ -103,15 +104,15 @@ fn second_refusal(
     columns: usize,
     row: usize,
     transform: Transform,
-) -> StepAnswer
+) -> Result<(), StepError>
     requires { from + columns ≤ length labels.now }
     ensures { step_says result ≡ says (second_clear transform row (take columns (drop from labels.now))) }
 {
     match transform {
-        Transform::Add(operand) => operand_refusal(labels, from, columns, row, operand),
-        Transform::Sub(operand) => operand_refusal(labels, from, columns, row, operand),
-        Transform::Cut(_) => StepAnswer::Made,
-        Transform::Band(_) => StepAnswer::Made,
+        Transform::Add(operand) | Transform::Sub(operand) => {
+            operand_refusal(labels, from, columns, row, operand)
+        }
+        Transform::Cut(_) | Transform::Band(_) => Ok(()),
     }
 }
 
@@ -121,32 +122,14 @@ fn operand_refusal(
     columns: usize,
     row: usize,
     operand: Operand,
-) -> StepAnswer
+) -> Result<(), StepError>
     requires { from + columns ≤ length labels.now }
     ensures { step_says result ≡ says (operand_clear operand row (take columns (drop from labels.now))) }
 {
     match operand {
-        Operand::Constant(_) => StepAnswer::Made,
-        Operand::Column(column) => {
-            if columns <= column {
-                return StepAnswer::Made;
-            }
-            if labels[from + column] == 0 {
-                StepAnswer::Made
-            } else {
-                StepAnswer::Refused(Refusal::OperandNotClear(row, column))
-            }
+        Operand::Column(column) if column < columns && labels[from + column] != 0 => {
+            Err(StepError::Refused(Refusal::OperandNotClear(At { row, column })))
         }
-    }
-}
-
-// The first refusal of two answers.
-fn earlier(first: StepAnswer, second: StepAnswer) -> StepAnswer
-    ensures { (u v : Verdict) → step_says first ≡ says u → step_says second ≡ says v → step_says result ≡ says (or_else u v) }
-{
-    match first {
-        StepAnswer::Made => second,
-        StepAnswer::Refused(_) => first,
-        StepAnswer::DoesNotFit => first,
+        Operand::Constant(_) | Operand::Column(_) => Ok(()),
     }
 }

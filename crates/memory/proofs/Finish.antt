@@ -88,6 +88,11 @@ refusal-stands refusal v e =
     let r = verdicts refusal in
     e ∙ ap says (sym (ap (λ (w : Verdict). or_else w v) (sym (says_is e) ∙ r.is) ∙ sym (sym (says_is e) ∙ r.is)))
 
+-- the same of the error of a test
+pub error-stands : (wrong : StepError) {u : Verdict} (v : Verdict) → error_says wrong ≡ says u → error_says wrong ≡ says (or_else u v)
+error-stands (error.Refused refusal) v e = refusal-stands refusal v e
+error-stands error.DoesNotFit v e = absurd (never-unfit e)
+
 pub goes_on : {u : Verdict} (v : Verdict) → says fine ≡ says u → or_else u v ≡ v
 goes_on v e = ap (λ (w : Verdict). or_else w v) (sym (says_is e))
 

@@ -12,55 +12,55 @@ ghost use Rattle.memory.specs.promises.Steps.{step_says};
 ghost use Rattle.plan.specs.Noise.{noise_refusal, check_noise};
 ghost use Rattle.noise_refusal.specs.promises.Refusals.{noise_says};
 
-use label::LabelAnswer;
-use memory::{LiveTable, Refusal, StepAnswer};
+use cells::At;
+use label::LabelRefusal;
+use memory::{LiveTable, Refusal, StepError};
 
 // The first refusal, row by row, with so many draws left. A table that is not within the labels or does not have the column, and labels in the
 // column that are not well-formed, do not fit.
-pub fn refusal(labels: &[u32], table: LiveTable, column: usize, left: usize) -> StepAnswer
+pub fn refusal(
+    labels: &[u32],
+    table: LiveTable,
+    column: usize,
+    left: usize,
+) -> Result<(), StepError>
     ensures { step_says result ≡ noise_says labels.now table column left }
 {
     if !search::column_formed(labels, table.at, table.rows, table.columns, column) {
-        return StepAnswer::DoesNotFit;
+        return Err(StepError::DoesNotFit);
     }
     rows_refusal(labels, table, column, left)
 }
 
 // The same of labels that are well-formed.
-fn rows_refusal(labels: &[u32], table: LiveTable, column: usize, left: usize) -> StepAnswer
+fn rows_refusal(
+    labels: &[u32],
+    table: LiveTable,
+    column: usize,
+    left: usize,
+) -> Result<(), StepError>
     requires { column_formed_at labels.now table.at table.rows table.columns column ≡ true }
     ensures { step_says result ≡ says (check_noise column left (labels_in labels.now table)) }
 {
-    let mut from = table.at;
-    let mut row = 0;
-    while row < table.rows {
-        match row_refusal(labels[from + column], row, column, left) {
-            StepAnswer::Made => {}
-            StepAnswer::Refused(refusal) => {
-                return StepAnswer::Refused(refusal);
-            }
-            StepAnswer::DoesNotFit => {
-                return StepAnswer::DoesNotFit;
-            }
-        }
-        from += table.columns;
-        row += 1;
+    for row in 0..table.rows {
+        let word = labels[table.at + row * table.columns + column];
+        row_refusal(word, row, column, left)?;
     }
-    StepAnswer::Made
+    Ok(())
 }
 
 // The refusal of one row: by the label of its value, and then for want of a draw.
-fn row_refusal(word: u32, row: usize, column: usize, left: usize) -> StepAnswer
+fn row_refusal(word: u32, row: usize, column: usize, left: usize) -> Result<(), StepError>
     requires { well_formed word ≡ true }
     ensures { step_says result ≡ says (noise_refusal column left row word) }
 {
     if forbidden(word) {
-        return StepAnswer::Refused(Refusal::Forbidden(row, column));
+        return Err(StepError::Refused(Refusal::Forbidden(At { row, column })));
     }
     if left <= row {
-        return StepAnswer::Refused(Refusal::NoDraw(row, column));
+        return Err(StepError::Refused(Refusal::NoDraw(At { row, column })));
     }
-    StepAnswer::Made
+    Ok(())
 }
 
 // Whether noise is forbidden on a label.
@@ -68,8 +68,5 @@ fn forbidden(word: u32) -> bool
     requires { well_formed word ≡ true }
     ensures { result ≡ forbids_n word }
 {
-    match label::discharge_noise(word) {
-        LabelAnswer::Forbidden => true,
-        _ => false,
-    }
+    label::discharge_noise(word) == Err(LabelRefusal::Forbidden)
 }
