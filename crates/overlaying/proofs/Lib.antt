@@ -1,2 +1,0 @@
--- What the proof of `overlay_step` rests on.
-pub mod Steps
