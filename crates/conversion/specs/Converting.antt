@@ -1,21 +1,25 @@
 -- What a conversion answers, and what it leaves in the two slices that it is lent: one for the new container, one for the offsets.
-use Rattle.std.specs.Prelude.{ℕ, cond, ◌&&◌, List, ◌++◌, leb, length, drop}
+use Rattle.std.specs.Prelude.{ℕ, cond, ◌&&◌, List, ◌++◌, Result, Ok, Err, leb, length, drop}
 use Rattle.container.specs.Check.{InputVerdict, accepted, rejected}
 use Rattle.input.specs.Answers.{input_tells}
 use Rattle.conversion.specs.Conversion.{check_before, changed_labels, converted}
-use Rattle.conversion.specs.declared.ConversionAnswer.{ConversionAnswer}
-use Rattle.conversion.specs.declared.ConversionAnswer.TheVariants as answer
+use Rattle.conversion.specs.declared.ConversionRefusal.{ConversionRefusal}
+use Rattle.conversion.specs.declared.ConversionRefusal.TheVariants as refusal
 
 -- how many labels were changed; or a number and a place
 pub data ConversionVerdict : Type 0 where
   changed : ℕ → ConversionVerdict
   refused : ℕ → ℕ → ConversionVerdict
 
--- the number and the place of each answer
-abbrev pub conversion_says : ConversionAnswer → ConversionVerdict
-conversion_says (answer.Converted count) = changed count
-conversion_says answer.TooShort = refused 1 0
-conversion_says (answer.Refused refusal) = input_tells refused refusal
+-- the number and the place of each refusal
+abbrev pub conversion_tells : {A : Type 0} → (ℕ → ℕ → A) → ConversionRefusal → A
+conversion_tells tell refusal.TooShort = tell 1 0
+conversion_tells tell (refusal.Input why) = input_tells tell why
+
+-- what the answer of a conversion says
+abbrev pub conversion_says : Result ℕ ConversionRefusal → ConversionVerdict
+conversion_says (Ok count) = changed count
+conversion_says (Err why) = conversion_tells refused why
 
 pub record Conversion : Type 0 where
   pub told : ConversionVerdict

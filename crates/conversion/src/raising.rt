@@ -1,5 +1,5 @@
 // The bytes of the new container, and the offsets of the labels changed.
-ghost use Rattle.std.specs.Prelude.{◌≡◌, ◌+◌, ◌*◌, ◌≤◌, ◌++◌, length, drop};
+ghost use Rattle.std.specs.Prelude.{◌≡◌, ◌+◌, ◌*◌, ◌≤◌, length};
 ghost use Rattle.container.specs.Check.{accepted};
 ghost use Rattle.conversion.specs.Conversion.{check_before, one_at, ones_among, changed_labels};
 ghost use Rattle.conversion.specs.promises.Raising.{Raised};
@@ -8,18 +8,6 @@ ghost use Rattle.table_part.specs.TablePart.{label_place, cell_count};
 use layout::{part, part_count, part_offset};
 use little_endian::four;
 use table_part::cell_count;
-
-// Copies bytes to the start of a slice that has room for them.
-pub fn copy(bytes: &[u8], new: &mut [u8])
-    requires { length bytes.now ≤ length new.old }
-    ensures { new.new ≡ bytes.now ++ drop (length bytes.now) new.old }
-{
-    let mut i = 0;
-    while i < bytes.len() {
-        new[i] = bytes[i];
-        i += 1;
-    }
-}
 
 // Raises the label of a cell in the new container, if its minimum is 1, and writes its offset after the first `count`. Answers how many
 // offsets there are then. The table part begins at `at`.
@@ -50,12 +38,9 @@ fn raise_table(table: &[u8], at: usize, new: &mut [u8], offsets: &mut [u32], cou
     ensures { Raised (ones_among table.now at 0 (cell_count table.now)) count new.old offsets.old result
         new.new offsets.new }
 {
-    let cells = cell_count(table) as usize;
     let mut found = count;
-    let mut cell = 0;
-    while cell < cells {
+    for cell in 0..cell_count(table) as usize {
         found = raise_label(table, at, cell, new, offsets, found);
-        cell += 1;
     }
     found
 }
@@ -65,10 +50,8 @@ pub fn raise_tables(container: &[u8], new: &mut [u8], offsets: &mut [u32]) -> us
     requires { (check_before container.now ≡ accepted) × (length container.now ≤ length new.old) × (8192 ≤ length offsets.old) }
     ensures { Raised (changed_labels container.now) 0 new.old offsets.old result new.new offsets.new }
 {
-    let count = part_count(container);
     let mut found = 0;
-    let mut index = 1;
-    while index < count {
+    for index in 1..part_count(container) {
         found = raise_table(
             part(container, index),
             part_offset(container, index) as usize,
@@ -76,7 +59,6 @@ pub fn raise_tables(container: &[u8], new: &mut [u8], offsets: &mut [u32]) -> us
             offsets,
             found,
         );
-        index += 1;
     }
     found
 }

@@ -1,36 +1,22 @@
 -- `conversion::convert` meets its contract. Assumes nothing.
-use mathlib.Core.Path.{◌≡◌, sym, ap, ◌∙◌}
-use native.Mathlib.Omega.{arith}
-use lib.ListN.{length-append}
-use Rattle.container.specs.Check.{accepted}
-use Rattle.conversion.specs.Conversion.{check_before}
-use Rattle.input.specs.promises.Checks.{input_says}
-use Rattle.input.proofs.Laws.{passes}
+use mathlib.Core.Path.{sym}
+use Rattle.std.proofs.lemmas.Result.{err_from_is_err_and}
 use Rattle.conversion.proofs.Meaning.{short-new, short-offsets, refuses, converts}
 use Rattle.conversion.proofs.convert.Goals as goal
-use Rattle.conversion.proofs.convert.Goals.{In_default}
+use Rattle.conversion.proofs.convert.Goals.{then-new-length-via-then-new-length, then-new-length-via-else-new-length+then-offsets-lt8192}
 
-pub returns-then-new-container : goal.returns-then-new-container
-returns-then-new-container c = short-new _ _ _ c.if-new-container.true
+pub returns-then-new-length : goal.returns-then-new-length
+returns-then-new-length c =
+    elim c.then-new-length.branch [
+      | then-new-length-via-then-new-length w ↦ short-new _ _ _ w.if-new-length.true
+      | then-new-length-via-else-new-length+then-offsets-lt8192 w ↦ short-offsets _ _ _ w.if-new-length.false w.if-offsets-lt8192.true
+    ]
 
-pub returns-then-offsets-lt8192 : goal.returns-then-offsets-lt8192
-returns-then-offsets-lt8192 c = short-offsets _ _ _ c.if-new-container.false c.if-offsets-lt8192.true
-
-pub returns-in-Refused : goal.returns-in-Refused
-returns-in-Refused c =
-    refuses _ _ _ c.if-new-container.false c.if-offsets-lt8192.false c.in-Refused.refusal (sym (ap input_says c.in-Refused.is) ∙ c.check_before-found.ensures)
-
--- the check has accepted the container
-accepts : (c : In_default) → check_before c.args.container.now ≡ accepted
-accepts c = passes _ _ c.check_before-found.ensures c.in_default.is
-
-pub raise_tables-requires : goal.raise_tables-requires
-raise_tables-requires c = (
-  accepts (goal.at.raise_tables-requires c).In_default,
-  rw (c.copy.ensures, length-append) (omega arith),
-  c.if-offsets-lt8192.false,
-)
+pub returns-in_err-check_before : goal.returns-in_err-check_before
+returns-in_err-check_before c =
+    let p = err_from_is_err_and c.from_residual.result c.from_residual.ensures.1 in
+    rw (p.1, p.2) (refuses _ _ _ c.if-new-length.false c.if-offsets-lt8192.false _ c.in_err-check_before.ensures)
 
 pub returns : goal.returns
 returns c =
-    converts _ _ _ c.if-new-container.false c.if-offsets-lt8192.false (accepts (goal.at.returns c).In_default) (rw c.copy.ensures at c.raise_tables.ensures)
+    converts _ _ _ c.if-new-length.false c.if-offsets-lt8192.false (sym c.in_ok-check_before.ensures) (rw c.copy_from_slice.ensures.after at c.raise_tables.ensures)

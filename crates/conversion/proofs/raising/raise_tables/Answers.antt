@@ -6,18 +6,14 @@ use native.Mathlib.Omega.{arith}
 use Rattle.conversion.specs.Conversion.{changed_labels}
 use Rattle.layout.specs.Layout.{part_count, offset_of, part_of}
 use Rattle.table_part.specs.TablePart.{cell_count}
-use Rattle.conversion.proofs.Ones.{from_more, ones-few, none-raised, both-raised, new-length, offsets-length}
+use Rattle.conversion.proofs.Ones.{from_more, ones-few, both-raised, new-length, offsets-length}
 use Rattle.conversion.proofs.Laid.{before, laid, TableLaid, table-laid}
 use Rattle.conversion.proofs.raising.raise_tables.Goals as goal
 use Rattle.conversion.proofs.raising.raise_tables.Goals.{After-part_offset}
 
-pub loop-index-init : goal.loop-index-init
-loop-index-init c = let s = (laid 1 _ (before _ c.requires.0).1).size in (omega arith, omega (arith, s.least, c.part_count-count.ensures), λ _. omega arith, none-raised)
-
 -- the table at which a turn stands
 here : (c : After-part_offset) → TableLaid c.args.container.now c.loop-index.index
-here c =
-    table-laid 1 c.args.container.now (before _ c.requires.0).1 c.loop-index.index c.loop-index.invariant.0 (omega (arith, c.loop-index-test.true, c.part_count-count.ensures))
+here c = table-laid 1 c.args.container.now (before _ c.requires.0).1 c.loop-index.index c.loop-index.invariant.0 (omega arith)
 
 pub raise_table-found-requires : goal.raise_table-found-requires
 raise_table-found-requires c =
@@ -26,16 +22,10 @@ raise_table-found-requires c =
     rw (c.part.ensures, c.part_offset.ensures) (
       t.whole,
       omega (arith, t.inside, size.short),
-      omega (arith, t.inside, c.requires.1, new-length c.loop-index.invariant.3),
-      c.loop-index.invariant.2 c.loop-index-test.true,
-      omega (arith, c.requires.2, offsets-length c.loop-index.invariant.3),
+      omega (arith, t.inside, c.requires.1, new-length c.loop-index.invariant.2),
+      c.loop-index.invariant.1 (omega arith),
+      omega (arith, c.requires.2, offsets-length c.loop-index.invariant.2),
     )
-
-pub overflow_add-index : goal.overflow_add-index
-overflow_add-index c = omega arith
-
-pub loop-index-smaller : goal.loop-index-smaller
-loop-index-smaller c = omega arith
 
 pub loop-index-preserved : goal.loop-index-preserved
 loop-index-preserved c =
@@ -45,23 +35,16 @@ loop-index-preserved c =
     let one : c.loop-index.index + 1 - 1 ≡ suc (c.loop-index.index - 1) = omega (arith, c.loop-index.invariant.0) in
     let same : 1 + (c.loop-index.index - 1) ≡ c.loop-index.index = omega (arith, c.loop-index.invariant.0) in (
       omega arith,
-      omega arith,
       λ more.
           let few = ones-few (part_of bytes c.loop-index.index) (offset_of bytes c.loop-index.index) 0 (cell_count (part_of bytes c.loop-index.index)) in
-          let before = c.loop-index.invariant.2 c.loop-index-test.true in
-          let next = t.after (omega (arith, more, c.part_count-count.ensures)) in
+          let before = c.loop-index.invariant.1 (omega arith) in
+          let next = t.after (omega (arith, more)) in
           rw (add-one c.loop-index.index, next) (omega (arith, few, before, r.counted, t.whole)),
-      rw (one, from_more bytes 1 (c.loop-index.index - 1), same) (both-raised c.loop-index.invariant.3 r),
+      rw (one, from_more bytes 1 (c.loop-index.index - 1), same) (both-raised c.loop-index.invariant.2 r),
     )
-
-pub shape_of-new : goal.shape_of-new
-shape_of-new c = new-length c.loop-index.invariant.3
-
-pub shape_of-offsets : goal.shape_of-offsets
-shape_of-offsets c = offsets-length c.loop-index.invariant.3
 
 pub returns : goal.returns
 unfolding changed_labels
 returns c =
-    let e : c.loop-index.index ≡ part_count c.args.container.now = omega (arith, c.part_count-count.ensures) in
-    rw (← e) c.loop-index.invariant.3
+    let e : c.loop-index.index ≡ part_count c.args.container.now = omega (arith, (laid 1 _ (before _ c.requires.0).1).size.least) in
+    rw (← e) c.loop-index.invariant.2

@@ -2,13 +2,10 @@
 use Prim.Native.Nat.{◌-◌, ◌*◌, ◌≤◌, ◌<◌}
 use Rattle.conversion.specs.Conversion.{ones_from}
 use Rattle.conversion.specs.promises.Raising.{Raised}
-use Rattle.layout.specs.Layout.{offset_of}
+use Rattle.layout.specs.Layout.{part_count, offset_of}
 use Rattle.conversion.proofs.raising.raise_tables.Given as goal
 
 abbrev pub invariant-loop-index : goal.invariant-loop-index
 invariant-loop-index l =
-    (1 ≤ l.index) × (l.index ≤ l.count) × (l.index < l.count → 12 * l.found ≤ offset_of l.container l.index)
+    (1 ≤ l.index) × (l.index < part_count l.container → 12 * l.found ≤ offset_of l.container l.index)
     × Raised (ones_from l.container 1 (l.index - 1)) 0 l.initial.new l.initial.offsets l.found l.new l.offsets
-
-abbrev pub decreases-loop-index : goal.decreases-loop-index
-decreases-loop-index l = l.count - l.index
