@@ -4,6 +4,7 @@ use mathlib.Core.Path.{◌≡◌, refl}
 use mathlib.Core.Bool.{Bool, true, false, cond, not, ◌&&◌, and-eq-true_iff}
 use mathlib.Core.List.{List}
 use lib.Dec.{eqb, leb, ltb}
+use Rattle.std.specs.Prelude.{Option, Some, None}
 use Rattle.accepted.specs.Accepted.{operation_exists, OperationsExist}
 use Rattle.container.specs.Contents.{put, steps_from, plan_of}
 use Rattle.label_discharge.specs.Discharge.{transform_exists}
@@ -15,17 +16,15 @@ use Rattle.plan.specs.declared.Transform.TheVariants.{Add, Sub, Cut, Band}
 use Rattle.plan_part.specs.PlanPart.{step_count}
 use Rattle.records.specs.Record.{fields_at, operand_written, operand_of, amount_fits, zeros, when, comparison_of, aggregate_of, apply_by, by_kind, step_of}
 use Rattle.records.specs.declared.Fields.{Fields}
-use Rattle.records.specs.declared.Found.{Found}
-use Rattle.records.specs.declared.Found.TheVariants as found
 use Rattle.value.specs.Pattern.{signed_of}
 
 -- a step found has its operation
-abbrev Has : Found → Type 0
-Has (found.Step step) = operation_exists step ≡ true
-Has found.Nothing = Unit
+abbrev Has : Option Step → Type 0
+Has (Some step) = operation_exists step ≡ true
+Has None = Unit
 
 -- of two, by a test
-has-cond : (b : Bool) (x y : Found) → Has x → Has y → Has (cond b x y)
+has-cond : (b : Bool) (x y : Option Step) → Has x → Has y → Has (cond b x y)
 has-cond true x y h k = h
 has-cond false x y h k = k
 
@@ -61,14 +60,14 @@ kind-has kind f =
 
 step-has : (f : Fields) → Has (step_of f)
 unfolding step_of
-step-has f = has-cond (eqb f.spare 0) (by_kind f.kind f) found.Nothing (kind-has f.kind f) tt
+step-has f = has-cond (eqb f.spare 0) (by_kind f.kind f) None (kind-has f.kind f) tt
 
 abbrev Exist : List Step → Type 0
 Exist = Each (λ step. operation_exists step ≡ true)
 
-put-exist : (f : Found) (later : List Step) → Has f → Exist later → Exist (put f later)
-put-exist (found.Step step) later h e = (h, e)
-put-exist found.Nothing later h e = e
+put-exist : (f : Option Step) (later : List Step) → Has f → Exist later → Exist (put f later)
+put-exist (Some step) later h e = (h, e)
+put-exist None later h e = e
 
 steps-exist : (part : List ℕ) (step more : ℕ) → Exist (steps_from part step more)
 steps-exist part step zero = tt

@@ -8,6 +8,7 @@ use native.Mathlib.Omega.{arith}
 use lib.Dec.{eqb, leb}
 use lib.ListN.{length, get_or, drop, length-drop}
 use borrow.Author.Tests.{leb-true, eqb-true, not-false}
+use Rattle.std.specs.Prelude.{Option, Some, None}
 use Rattle.accepted.specs.Accepted.{StepsCounted, StepsFound, Placed, PlanPlaced}
 use Rattle.container.specs.Check.{accepted, table_widths, check_input}
 use Rattle.container.specs.Contents.{steps_from, plan_of, tables_from, input_tables, tables_of}
@@ -20,8 +21,6 @@ use Rattle.plan.specs.declared.Step.TheVariants.{Union}
 use Rattle.plan_check.specs.PlanCheck.{check_found, check_steps, check_plan}
 use Rattle.plan_part.specs.PlanPart.{step_count, length_fits}
 use Rattle.records.specs.Record.{fields_at, step_of}
-use Rattle.records.specs.declared.Found.{Found}
-use Rattle.records.specs.declared.Found.TheVariants as found
 use Rattle.table_part.specs.TablePart.{columns_of, table_of}
 use Rattle.accepted.proofs.AcceptedTables.{checks}
 use Rattle.input.proofs.Laws.{never, not_so, passed}
@@ -35,11 +34,11 @@ after-low step stack made h e = omega (arith, enough-room step (length stack) h 
 -- what the steps from one on are
 record Walked (part : List ℕ) (step more : ℕ) (tables stack : List ℕ) : Type 0 where
   count : length (steps_from part step more) ≡ more
-  steps : (k : ℕ) → k < more → step_of (fields_at part (step + k)) ≡ found.Step (get_or (steps_from part step more) k Union)
+  steps : (k : ℕ) → k < more → step_of (fields_at part (step + k)) ≡ Some (get_or (steps_from part step more) k Union)
   places : length stack ≤ 3 → Placed tables stack (steps_from part step more)
 
 -- one step before them
-more-steps : (part : List ℕ) (step more : ℕ) (tables stack : List ℕ) (next : Step) → step_of (fields_at part step) ≡ found.Step next
+more-steps : (part : List ℕ) (step more : ℕ) (tables stack : List ℕ) (next : Step) → step_of (fields_at part step) ≡ Some next
     → enough_tables next (length stack) ≡ true → placed next tables stack ≡ true
     → Walked part (suc step) more tables (made_columns next tables stack ∷ drop (takes next) stack) → Walked part step (suc more) tables stack
 more-steps part step more tables stack next s t p w = record {
@@ -48,7 +47,7 @@ more-steps part step more tables stack next s t p w = record {
   places = λ h. rw s (h, t, p, w.places (after-low next stack (made_columns next tables stack) h t));
 }
   where
-    steps : (k : ℕ) → k < suc more → step_of (fields_at part (step + k)) ≡ found.Step (get_or (steps_from part step (suc more)) k Union)
+    steps : (k : ℕ) → k < suc more → step_of (fields_at part (step + k)) ≡ Some (get_or (steps_from part step (suc more)) k Union)
     steps zero h = rw (add-zero step, s)
     steps (suc k) h = rw (add-suc step k ∙ sym (suc-add step k), s) (w.steps k (omega arith))
 
@@ -62,16 +61,16 @@ module _ (part : List ℕ) (at : ℕ) (tables : List ℕ) where
   walked (suc more) step stack e = go (walked more (suc step)) (step_of (fields_at part step)) refl e
     where
       go : ((s : List ℕ) → check_steps part at (suc step) more tables s ≡ accepted → Walked part (suc step) more tables s)
-          → (f : Found) → step_of (fields_at part step) ≡ f
+          → (f : Option Step) → step_of (fields_at part step) ≡ f
           → check_found f (at + 16 * step) tables stack
           (λ next. check_steps part at (suc step) more tables (made_columns next tables stack ∷ drop (takes next) stack)) ≡ accepted
           → Walked part step (suc more) tables stack
-      go later (found.Step next) s c =
+      go later (Some next) s c =
           let t = passed (not (enough_tables next (length stack))) 18 (at + 16 * step) _ c in
           let p = passed (not (placed next tables stack)) 19 (at + 16 * step) _ t.1 in
           more-steps part step more tables stack next s (not-false _ t.0) (not-false _ p.0)
           (later (made_columns next tables stack ∷ drop (takes next) stack) p.1)
-      go later found.Nothing s c = absurd (never 17 _ c)
+      go later None s c = absurd (never 17 _ c)
 
 widths-of : (bytes : List ℕ) (table part more : ℕ) → table_widths bytes part more ≡ map (λ table. table.columns) (all_with_marks table (tables_from bytes part more))
 unfolding table_of with_marks

@@ -1,5 +1,5 @@
 -- What an accepted container holds. Each of these is proved.
-use Rattle.std.specs.Prelude.{ℕ, suc, ◌+◌, ◌-◌, ◌*◌, ◌≤◌, ◌<◌, ◌≡◌, Bool, true, false, not, List, [], ◌∷◌, map, eqb, length, get_or, drop}
+use Rattle.std.specs.Prelude.{ℕ, suc, ◌+◌, ◌-◌, ◌*◌, ◌≤◌, ◌<◌, ◌≡◌, Bool, true, false, not, List, [], ◌∷◌, map, eqb, length, get_or, drop, Some}
 use Rattle.container.specs.Check.{accepted, check_input}
 use Rattle.container.specs.Contents.{plan_of, input_tables, tables_of}
 use Rattle.operations.specs.promises.Operations.{operation_fits}
@@ -14,7 +14,6 @@ use Rattle.plan.specs.declared.Step.{Step}
 use Rattle.plan.specs.declared.Step.TheVariants.{Scan, Union, Join, Filter, Keep, Apply, Group, Noise}
 use Rattle.plan_part.specs.PlanPart.{step_count}
 use Rattle.plan_part.specs.promises.Steps.{step_at}
-use Rattle.records.specs.declared.Found.TheVariants as found
 use Rattle.table_part.specs.TablePart.{columns_of, sheets_of, row_count, cell_count, header_fits, table_of}
 use Rattle.value.specs.Pattern.{negative}
 use Rattle.value.specs.Range.{in_range}
@@ -67,7 +66,7 @@ StepsCounted = (bytes : List ℕ) → check_input bytes ≡ accepted
 
 abbrev pub StepsFound : Type 0
 StepsFound = (bytes : List ℕ) → check_input bytes ≡ accepted → (k : ℕ) → k < step_count (part_of bytes 0)
-    → step_at (part_of bytes 0) k ≡ found.Step (get_or (plan_of bytes) k Union)
+    → step_at (part_of bytes 0) k ≡ Some (get_or (plan_of bytes) k Union)
 
 -- along a plan the stack holds at most three tables, each step has its tables and its columns there, and one table is left
 abbrev pub Placed : List ℕ → List ℕ → List Step → Type 0

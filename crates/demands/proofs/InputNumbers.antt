@@ -6,6 +6,7 @@ use mathlib.Core.List.{List, [], ◌∷◌}
 use native.Mathlib.Omega.{arith}
 use lib.Dec.{eqb, leb, ltb}
 use lib.ListN.{length, drop}
+use Rattle.std.specs.Prelude.{Option, Some, None}
 use Rattle.container.specs.Check.{check_tables, table_widths, check_input_from, check_input}
 use Rattle.directory.specs.Directory.{check_pairs, check_directory}
 use Rattle.layout_check.specs.Checks.{check_container}
@@ -26,8 +27,6 @@ use Rattle.plan.specs.declared.Step.{Step}
 use Rattle.plan_check.specs.PlanCheck.{check_found, check_steps, check_plan}
 use Rattle.plan_part.specs.PlanPart.{step_count, length_fits}
 use Rattle.records.specs.Record.{fields_at, step_of}
-use Rattle.records.specs.declared.Found.{Found}
-use Rattle.records.specs.declared.Found.TheVariants as found
 use Rattle.value.specs.Range.{in_range}
 
 -- a verdict whose number, if it has one, lies from one to another
@@ -83,11 +82,11 @@ tables least bytes part zero = no_number
 tables least bytes part (suc more) =
     both (check_table least (part_of bytes part) (offset_of bytes part)) _ (table least (part_of bytes part) (offset_of bytes part)) (tables least bytes (suc part) more)
 
-step-found : (found : Found) (place : ℕ) (tables stack : List ℕ) (later : Step → InputVerdict) → ((step : Step) → Numbered (later step))
+step-found : (found : Option Step) (place : ℕ) (tables stack : List ℕ) (later : Step → InputVerdict) → ((step : Step) → Numbered (later step))
     → Numbered (check_found found place tables stack later)
-step-found (found.Step step) place tables stack later n =
+step-found (Some step) place tables stack later n =
     next (not (enough_tables step (length stack))) 18 place _ (omega arith) (omega arith) (next (not (placed step tables stack)) 19 place _ (omega arith) (omega arith) (n step))
-step-found found.Nothing place tables stack later n = between {number = 17} (omega arith) (omega arith)
+step-found None place tables stack later n = between {number = 17} (omega arith) (omega arith)
 
 steps : (part : List ℕ) (at step more : ℕ) (tables stack : List ℕ) → Numbered (check_steps part at step more tables stack)
 steps part at step zero tables stack = only (not (eqb (length stack) 1)) 18 _ (omega arith) (omega arith)
