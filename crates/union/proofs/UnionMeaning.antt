@@ -16,7 +16,8 @@ use Rattle.cells.specs.promises.Written.{Written, CellsWritten}
 use Rattle.live_tables.specs.declared.LiveTable.{LiveTable}
 use Rattle.memory.specs.declared.Refusal.TheVariants.{TooMany}
 use Rattle.live_tables.specs.declared.Stack.{Stack}
-use Rattle.memory.specs.declared.StepAnswer.TheVariants.{Made, Refused}
+use Rattle.std.specs.Prelude.{Ok, Err}
+use Rattle.memory.specs.declared.StepError.TheVariants.{Refused}
 use Rattle.memory.specs.promises.Stack.{Ready, slot, mark_slot, mark_part, stack_in, widths_to, with_table, live_table}
 use Rattle.memory.specs.promises.Steps.{verdict, fits, fits_in, Done}
 use Rattle.plan.specs.Steps.{check, make, too_many}
@@ -126,7 +127,7 @@ module _ (supply : Supply) (m : Memory) (stack : Stack) {left right : LiveTable}
   unfolding check too_many
   union-verdict = ap (λ (table : Table). refuse_if (ltb 256 (length table.rows)) 34 256 0) made-is ∙ ap (λ (n : ℕ). refuse_if (ltb 256 n) 34 256 0) rows-made
 
-  pub union-many : 256 < left.rows + right.rows → Done Union supply m stack (record { answer = Refused TooMany; stack = stack }) m
+  pub union-many : 256 < left.rows + right.rows → Done Union supply m stack (Err (Refused TooMany)) m
   union-many h = unchanged-done Union supply m stack t TooMany (union-verdict ∙ rw (lt-ltb 256 (left.rows + right.rows) h))
 
   -- the right rows, and the place behind the left ones
@@ -171,7 +172,7 @@ module _ (supply : Supply) (m : Memory) (stack : Stack) {left right : LiveTable}
       (ap (λ (n : ℕ). left.marks + n) (sym left-count)) marks-reach.0 (omega (arith, marks-reach.1)))
 
   pub union-made : left.rows + right.rows ≤ 256
-      → Done Union supply m stack (record { answer = Made; stack = with_table stack left.slot width (left.rows + right.rows) }) united_memory
+      → Done Union supply m stack (Ok (with_table stack left.slot width (left.rows + right.rows))) united_memory
   union-made h =
       let w = m.work in
       let c = cells_in w in
@@ -194,5 +195,5 @@ module _ (supply : Supply) (m : Memory) (stack : Stack) {left right : LiveTable}
   -- the same of what the moves leave
   pub union_left : left.rows + right.rows ≤ 256 → {us : List ℤ} {ks ns : List ℕ} → us ≡ moved from to count m.work.values → ks ≡ moved from to count m.work.labels
       → ns ≡ moved right.marks (left.marks + left.rows) right.rows m.marks
-      → Done Union supply m stack (record { answer = Made; stack = with_table stack left.slot width (left.rows + right.rows) }) (memory_of us ks ns)
+      → Done Union supply m stack (Ok (with_table stack left.slot width (left.rows + right.rows))) (memory_of us ks ns)
   union_left h v k n = rw (v, k, n) (union-made h)

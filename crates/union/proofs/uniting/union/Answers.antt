@@ -1,6 +1,6 @@
 -- `union::uniting::union` meets its contract. Assumes nothing.
 use Prim.Native.Nat.{◌≤◌}
-use mathlib.Core.Path.{◌≡◌, sym, ◌∙◌}
+use mathlib.Core.Path.{◌≡◌, sym}
 use mathlib.Core.Bool.{true}
 use mathlib.Core.List.{[]}
 use native.Mathlib.Omega.{arith}
@@ -11,15 +11,15 @@ use Rattle.memory.specs.promises.Steps.{fits}
 use Rattle.plan.specs.Widths.{columns_exist, made_columns}
 use Rattle.plan.specs.declared.Step.TheVariants.{Union}
 use Rattle.cells.proofs.CellLaws.{values_moved, labels-moved}
-use Rattle.memory.proofs.Finish.{unfit-done, columns-fit, columns-misfit, marks-too, marks-short, not-even}
+use Rattle.memory.proofs.Finish.{error-is, unfit-done, columns-fit, columns-misfit, marks-too, marks-short, not-even}
 use Rattle.union.proofs.UnionMeaning.{UnionFits, union-parts, union-many, in-values, in-labels, marks-moved, union_left}
 use Rattle.union.proofs.uniting.union.Goals as goal
 use Rattle.union.proofs.uniting.union.Goals.{After-live_table-right}
 
-fitted : (c : After-live_table-right) → let a = c.args in (fits Union [] (length a.values.now) (length a.labels.now) a.stack ≡ true) × (c.in-Columns.columns ≡ made_columns Union [] (widths_to a.stack a.stack.depth))
-fitted c = columns-fit _ _ (sym c.fit.ensures ∙ c.in-Columns.is)
+fitted : (c : After-live_table-right) → let a = c.args in (fits Union [] (length a.values.now) (length a.labels.now) a.stack ≡ true) × (c.in_ok-columns.columns ≡ made_columns Union [] (widths_to a.stack a.stack.depth))
+fitted c = columns-fit _ _ (sym c.in_ok-columns.ensures)
 
-parts : (c : After-live_table-right) → let a = c.args in UnionFits (length a.values.now) (length a.labels.now) a.stack c.live_table-left.result c.live_table-right.result c.in-Columns.columns
+parts : (c : After-live_table-right) → let a = c.args in UnionFits (length a.values.now) (length a.labels.now) a.stack c.live_table-left.result c.live_table-right.result c.in_ok-columns.columns
 parts c = union-parts [] _ _ c.args.stack _ _ _ c.live_table-left.ensures c.live_table-right.ensures (fitted c).0 (fitted c).1
 
 -- the marks are enough
@@ -29,11 +29,11 @@ room c = c.if-marks-lt-MARK_ROOM.false
 pub returns-then-marks-lt-MARK_ROOM : goal.returns-then-marks-lt-MARK_ROOM
 returns-then-marks-lt-MARK_ROOM c = λ supply. unfit-done Union supply _ _ (marks-short _ c.args.marks.now c.if-marks-lt-MARK_ROOM.true)
 
-pub returns-in_default : goal.returns-in_default
+pub returns-in_err-columns : goal.returns-in_err-columns
 unfolding columns_exist made_columns
-returns-in_default c =
-    λ supply. unfit-done Union supply _ _
-    (not-even c.args.marks.now (columns-misfit _ _ (sym c.fit.ensures ∙ c.in_default.is)))
+returns-in_err-columns c =
+    λ supply. rw (error-is c.from_residual.ensures.1)
+    (unfit-done Union supply _ _ (not-even c.args.marks.now (columns-misfit _ _ (sym c.in_err-columns.ensures))))
 
 pub overflow_add-left : goal.overflow_add-left
 overflow_add-left c = let f = parts (goal.at.overflow_add-left c).After-live_table-right in omega (arith, f.few-left, f.few-right)
