@@ -3,7 +3,7 @@ use Prim.Native.Nat.{ℕ, ◌+◌, ◌*◌, ◌≤◌, ◌<◌}
 use mathlib.Core.Path.{◌≡◌, refl, sym, ap, ap₂, ◌∙◌}
 use mathlib.Core.Bool.{Bool, true, false, cond}
 use mathlib.Core.List.{List, [], ◌∷◌, ◌++◌, map, map-append, append-nil}
-use native.Mathlib.Nat.{zero-mul, mul-le-mul_right}
+use native.Mathlib.Nat.{mul-le-mul_right}
 use native.Mathlib.Numerals.{add-one}
 use native.Mathlib.Omega.{arith}
 use lib.IntN.{pos}
@@ -33,12 +33,10 @@ use Rattle.filter.proofs.RowLaws.{passing-append, passing-wide}
 abbrev pub kept_of : (Row → Bool) → LiveTable → Memory → ℕ → List Row
 kept_of pass top m row = passing pass (rows_of top.columns (mark_part m.marks top.marks row) (drop top.at (cells_in m.work)))
 
-pub record Filtering (pass : Row → Bool) (top : LiveTable) (m₀ m : Memory) (kept from to row : ℕ) : Type 0 where
+pub record Filtering (pass : Row → Bool) (top : LiveTable) (m₀ m : Memory) (kept row : ℕ) : Type 0 where
   pub row-le : row ≤ top.rows
-  pub from_is : from ≡ top.at + row * top.columns
   pub kept-is : kept ≡ length (kept_of pass top m₀ row)
   pub kept-le : kept ≤ row
-  pub to_is : to ≡ top.at + kept * top.columns
   pub cells : CellsWritten m₀.work top.at (flat (kept_of pass top m₀ row)) m.work
   pub marks : Written m₀.marks top.marks (map (λ row. row.mark) (kept_of pass top m₀ row)) m.marks
   pub same : Kept m₀.work m.work
@@ -59,26 +57,31 @@ memory-length : {top : LiveTable} (m₀ : Memory) → Stand top m₀ → top.at 
 memory-length m₀ i = omega (arith, i.cells.below, cells-room m₀.work i.cells)
 
 -- memory with a row moved, and its mark
-abbrev pub row_moved : LiveTable → ℕ → ℕ → ℕ → ℕ → Memory → Memory
-row_moved top from to kept row m = record {
-  work = moved_in from to top.columns m.work;
+abbrev pub row_moved : LiveTable → ℕ → ℕ → Memory → Memory
+row_moved top kept row m = record {
+  work = moved_in (top.at + row * top.columns) (top.at + kept * top.columns) top.columns m.work;
   marks = set m.marks (top.marks + kept) (get_or m.marks (top.marks + row) 0);
 }
 
 module _ {pass : Row → Bool} {top : LiveTable} {m₀ : Memory} (i : Stand top m₀) where
-  pub filter-begins : Filtering pass top m₀ m₀ 0 top.at top.at 0
+  pub filter-begins : Filtering pass top m₀ m₀ 0 0
   filter-begins = record {
     row-le = omega arith;
-    from_is = omega (arith, zero-mul top.columns);
     kept-is = refl;
     kept-le = omega arith;
-    to_is = omega (arith, zero-mul top.columns);
     cells = nothing_written (cells_in m₀.work) top.at (omega (arith, memory-length m₀ i));
     marks = nothing_written m₀.marks top.marks (omega (arith, i.marks.below, i.marks.mark-room));
     same = kept-none m₀.work;
   }
 
-  module _ {m : Memory} {kept from to row : ℕ} (s : Filtering pass top m₀ m kept from to row) (h : row < top.rows) where
+  module _ {m : Memory} {kept row : ℕ} (s : Filtering pass top m₀ m kept row) (h : row < top.rows) where
+    -- where the row stands, and where the next one that is kept is to stand
+    abbrev from : ℕ
+    from = top.at + row * top.columns
+
+    abbrev to : ℕ
+    to = top.at + kept * top.columns
+
     inside : top.at + row * top.columns + top.columns ≤ top.at + top.rows * top.columns
     inside = omega (arith, mul-le-mul_right top.columns h)
 
@@ -99,19 +102,17 @@ module _ {pass : Row → Bool} {top : LiveTable} {m₀ : Memory} (i : Stand top 
     behind = mul-le-mul_right top.columns s.kept-le
 
     pub values-reach : from + top.columns ≤ length m.work.values
-    values-reach = omega (arith, s.from_is, inside, i.cells, s.same.as-many-values)
+    values-reach = omega (arith, inside, i.cells, s.same.as-many-values)
 
     labels-reach : from + top.columns ≤ length m.work.labels
-    labels-reach = omega (arith, s.from_is, inside, i.cells, s.same.as-many-labels)
+    labels-reach = omega (arith, inside, i.cells, s.same.as-many-labels)
 
     -- what the row holds
     value-is : (column : ℕ) → column < top.columns → (cell_at column (here_of top m₀ row)).value ≡ get_or m.work.values (from + column) (pos 0)
     value-is column k =
-        let e : from + column ≡ top.at + row * top.columns + column = omega (arith, s.from_is) in
         ap (λ (cell : Cell). cell.value) (cell-of (cells_in m₀.work) top.at top.columns row column k)
-        ∙ value_of (cells_in m₀.work) m.work (top.at + row * top.columns + column) (omega (arith, s.from_is, values-reach)) (omega (arith, s.from_is, labels-reach))
-        (read_past s.cells (top.at + row * top.columns + column) blank (omega (arith, wide, behind)))
-        ∙ ap (λ (n : ℕ). get_or m.work.values n (pos 0)) (sym e)
+        ∙ value_of (cells_in m₀.work) m.work (from + column) (omega (arith, values-reach)) (omega (arith, labels-reach))
+        (read_past s.cells (from + column) blank (omega (arith, wide, behind)))
 
     mark-is : get_or m.marks (top.marks + row) 0 ≡ get_or m₀.marks (top.marks + row) 0
     mark-is = read_past s.marks (top.marks + row) 0 (omega (arith, marked, s.kept-le))
@@ -128,30 +129,25 @@ module _ {pass : Row → Bool} {top : LiveTable} {m₀ : Memory} (i : Stand top 
         ∙ ap (λ (n : ℕ). passing pass (rows_of top.columns marks cells ++ (record { cells = take top.columns (drop (n * top.columns) cells); mark = mark } ∷ []))) count
         ∙ passing-append pass (rows_of top.columns marks cells) ((here_of top m₀ row) ∷ [])
 
-    next : from + top.columns ≡ top.at + (row + 1) * top.columns
-    next = omega (arith, s.from_is)
-
-    row-skipped : pass (here_of top m₀ row) ≡ false → Filtering pass top m₀ m kept (from + top.columns) to (row + 1)
+    row-skipped : pass (here_of top m₀ row) ≡ false → Filtering pass top m₀ m kept (row + 1)
     row-skipped e =
         let none : kept_of pass top m₀ (row + 1) ≡ (kept_of pass top m₀ row) = more ∙ rw e (append-nil (kept_of pass top m₀ row)) in
         record {
           row-le = omega arith;
-          from_is = next;
           kept-is = s.kept-is ∙ ap length (sym none);
           kept-le = omega (arith, s.kept-le);
-          to_is = s.to_is;
           cells = rw none s.cells;
           marks = rw none s.marks;
           same = s.same;
         }
 
     not_after : to ≤ from
-    not_after = omega (arith, s.to_is, s.from_is, behind)
+    not_after = omega (arith, behind)
 
     pub places : (to + top.columns ≤ room) × (from + top.columns ≤ room) × (kept ≤ 256) × (row ≤ 256)
     places = (
-      omega (arith, s.from_is, not_after, inside, i.cells.below),
-      omega (arith, s.from_is, inside, i.cells.below),
+      omega (arith, not_after, inside, i.cells.below),
+      omega (arith, inside, i.cells.below),
       omega (arith, s.kept-le, i.cells.few-rows),
       omega (arith, i.cells.few-rows),
     )
@@ -171,48 +167,46 @@ module _ {pass : Row → Bool} {top : LiveTable} {m₀ : Memory} (i : Stand top 
     pub in-labels : Moves from to top.columns (length m.work.labels)
     in-labels = down not_after labels-reach
 
-    row_kept : pass (here_of top m₀ row) ≡ true → Filtering pass top m₀ (row_moved top from to kept row m) (kept + 1) (from + top.columns) (to + top.columns) (row + 1)
+    row_kept : pass (here_of top m₀ row) ≡ true → Filtering pass top m₀ (row_moved top kept row m) (kept + 1) (row + 1)
     row_kept e =
         let rows = kept_of pass top m₀ row in
         let here = here_of top m₀ row in
         let w₀ = cells_in m₀.work in
         let one : kept_of pass top m₀ (row + 1) ≡ rows ++ (here ∷ []) = more ∙ rw e in
         let cells : here.cells ++ [] ≡ take top.columns (drop from w₀)
-        = append-nil here.cells ∙ row-cells w₀ top.at top.columns row ∙ ap (λ (n : ℕ). take top.columns (drop n w₀)) (sym s.from_is) in
+        = append-nil here.cells ∙ row-cells w₀ top.at top.columns row in
         let longer : flat (kept_of pass top m₀ (row + 1)) ≡ flat rows ++ take top.columns (drop from w₀)
         = ap flat one ∙ flat_append rows (here ∷ []) ∙ ap (λ (t : List Cell). flat rows ++ t) cells in
         let marks : map (λ row. row.mark) (kept_of pass top m₀ (row + 1)) ≡ map (λ row. row.mark) rows ++ (here.mark ∷ []) = ap (map (λ row. row.mark)) one ∙ map-append (λ row. row.mark) rows (here ∷ []) in
         let place : top.marks + length (map (λ row. row.mark) rows) ≡ top.marks + kept = ap (λ (n : ℕ). top.marks + n) marked in
         record {
           row-le = omega arith;
-          from_is = next;
           kept-is = ap (λ (n : ℕ). n + 1) s.kept-is ∙ sym (ap length one ∙ length-append rows (here ∷ []));
           kept-le = omega (arith, s.kept-le);
-          to_is = omega (arith, s.to_is);
           cells = rw (longer, cells-moved m.work in-values in-labels)
-              (then-copied s.cells from to top.columns (omega (arith, s.to_is, wide)) not_after (omega (arith, s.from_is, inside, memory-length m₀ i)));
+              (then-copied s.cells from to top.columns (omega (arith, wide)) not_after (omega (arith, inside, memory-length m₀ i)));
           marks = rw (marks, mark-is) (rw place at (one_written s.marks here.mark (omega (arith, place, i.marks.below, i.marks.mark-room, s.kept-le))));
           same = kept-moved in-values in-labels (omega (arith, places)) s.same;
         }
 
 -- the row that the loop has come to: its test, and what follows by the answer
-module _ (column : ℕ) (comparison : Comparison) (operand : Operand) {top : LiveTable} {m₀ m : Memory} {kept from to row : ℕ} (i : Stand top m₀)
-    (s : Filtering (passes column comparison operand) top m₀ m kept from to row) (h : row < top.rows) (k : column < top.columns) (f : operand_column_exists operand top.columns ≡ true) {answer : Bool}
-    (e : answer ≡ holds comparison (get_or m.work.values (from + column) (pos 0)) (operand_at m.work.values from operand)) where
+module _ (column : ℕ) (comparison : Comparison) (operand : Operand) {top : LiveTable} {m₀ m : Memory} {kept row : ℕ} (i : Stand top m₀)
+    (s : Filtering (passes column comparison operand) top m₀ m kept row) (h : row < top.rows) (k : column < top.columns) (f : operand_column_exists operand top.columns ≡ true) {answer : Bool}
+    (e : answer ≡ holds comparison (get_or m.work.values (top.at + row * top.columns + column) (pos 0)) (operand_at m.work.values (top.at + row * top.columns) operand)) where
   test-is : passes column comparison operand (here_of top m₀ row) ≡ answer
   test-is =
-      ap₂ (holds comparison) (value-is i s h column k) (operand-of (here_of top m₀ row) m.work.values from top.columns (value-is i s h) operand f)
+      ap₂ (holds comparison) (value-is i s h column k) (operand-of (here_of top m₀ row) m.work.values (top.at + row * top.columns) top.columns (value-is i s h) operand f)
       ∙ sym e
 
-  pub passed : answer ≡ true → Filtering (passes column comparison operand) top m₀ (row_moved top from to kept row m) (kept + 1) (from + top.columns) (to + top.columns) (row + 1)
+  pub passed : answer ≡ true → Filtering (passes column comparison operand) top m₀ (row_moved top kept row m) (kept + 1) (row + 1)
   passed t = row_kept i s h (test-is ∙ t)
 
-  pub failed : answer ≡ false → Filtering (passes column comparison operand) top m₀ m kept (from + top.columns) to (row + 1)
+  pub failed : answer ≡ false → Filtering (passes column comparison operand) top m₀ m kept (row + 1)
   failed t = row-skipped i s h (test-is ∙ t)
 
 -- all rows of the table have been tested
-pub filter-ends : {column : ℕ} {comparison : Comparison} {operand : Operand} {top : LiveTable} {m₀ m : Memory} {kept from to row : ℕ} → Stand top m₀ → row ≡ top.rows
-    → Filtering (passes column comparison operand) top m₀ m kept from to row → Filtered top column comparison operand m₀ kept m
+pub filter-ends : {column : ℕ} {comparison : Comparison} {operand : Operand} {top : LiveTable} {m₀ m : Memory} {kept row : ℕ} → Stand top m₀ → row ≡ top.rows
+    → Filtering (passes column comparison operand) top m₀ m kept row → Filtered top column comparison operand m₀ kept m
 filter-ends {column} {comparison} {operand} {top} {m₀} {kept = kept} {row = row} i e s =
     let marked : length (map (λ row. row.mark) (kept_of (passes column comparison operand) top m₀ row)) ≡ kept
     = length-map (kept_of (passes column comparison operand) top m₀ row) (λ row. row.mark) ∙ sym s.kept-is in

@@ -9,14 +9,15 @@ use lib.Dec.{ltb}
 use lib.ListN.{length, get_or, drop}
 use borrow.Author.Tests.{leb-true, ltb-true}
 use Rattle.plan.specs.Masks.{in_mask}
-use Rattle.cells.specs.declared.Place.{Place}
-use Rattle.cells.specs.declared.Place.TheVariants as place
+use Rattle.std.specs.Prelude.{Option, Some, None, Result, Ok, Err}
+use Rattle.cells.specs.declared.At.{At}
+use Rattle.cells.specs.declared.DoesNotFit.{DoesNotFit}
 use Rattle.cells.specs.promises.Search.{says, place_says, not_clear_at}
 use Rattle.cells.specs.promises.Work.{Memory, mark_room}
 use Rattle.live_tables.specs.declared.LiveTable.{LiveTable}
 use Rattle.memory.specs.declared.Refusal.TheVariants.{NotClear}
 use Rattle.live_tables.specs.declared.Stack.{Stack}
-use Rattle.memory.specs.declared.StepAnswer.TheVariants.{Made, Refused}
+use Rattle.memory.specs.declared.StepError.TheVariants.{Refused}
 use Rattle.memory.specs.promises.Stack.{Ready, stack_in, widths_to, with_table, live_table, marked_in, labels_in, Inside, MarksInside}
 use Rattle.memory.specs.promises.Steps.{verdict, fits, fits_in, Done}
 use Rattle.plan.specs.Filter.{read_by, check_filter, passes, passing, filtered}
@@ -82,28 +83,28 @@ module _ (column : ℕ) (comparison : Comparison) (operand : Operand) where
     made-is = ap (make step supply) (stack_top m f.here)
 
     module _ (mask : ℕ) (bits : (c : ℕ) → c < 8 → in_mask mask c ≡ read_by column operand c) where
-      searched : (found : Place) → place_says 31 0 found ≡ not_clear_at 31 0 labels top.at top.rows top.columns mask
+      searched : (found : Result (Option At) DoesNotFit) → place_says 31 0 found ≡ not_clear_at 31 0 labels top.at top.rows top.columns mask
           → place_says 31 0 found ≡ says (verdict step supply (stack_in m stack))
       searched found e =
           e ∙ rw (table-within f.inside_is)
           (ap says (search-same (in_mask mask) (read_by column operand) bits 31 top.columns top.rows 0 (drop top.at labels) f.inside_is.few-columns ∙ sym filter-verdict))
 
-      pub filter-refused : (row c : ℕ) → place_says 31 0 (place.At row c) ≡ not_clear_at 31 0 labels top.at top.rows top.columns mask
-          → Done step supply m stack (record { answer = Refused (NotClear row c); stack = stack }) m
-      filter-refused row c e =
-          unchanged-done step supply m stack t (NotClear row c) (sym (says_is (searched (place.At row c) e)) ∙ ap (λ (n : ℕ). refused 31 n c) (zero-add row))
+      pub filter-refused : (at : At) → place_says 31 0 (Ok (Some at)) ≡ not_clear_at 31 0 labels top.at top.rows top.columns mask
+          → Done step supply m stack (Err (Refused (NotClear at))) m
+      filter-refused at e =
+          unchanged-done step supply m stack t (NotClear at) (sym (says_is (searched (Ok (Some at)) e)) ∙ ap (λ (n : ℕ). refused 31 n at.column) (zero-add at.row))
 
-      pub filter-fits-still : place_says 31 0 place.DoesNotFit ≡ not_clear_at 31 0 labels top.at top.rows top.columns mask → ⊥
-      filter-fits-still e = never-unfit (searched place.DoesNotFit e)
+      pub filter-fits-still : {wrong : DoesNotFit} → place_says 31 0 (Err wrong) ≡ not_clear_at 31 0 labels top.at top.rows top.columns mask → ⊥
+      filter-fits-still {wrong} e = never-unfit (searched (Err wrong) e)
 
-      pub filter-made : (count : ℕ) {after : Memory} → place_says 31 0 place.Nowhere ≡ not_clear_at 31 0 labels top.at top.rows top.columns mask
+      pub filter-made : (count : ℕ) {after : Memory} → place_says 31 0 (Ok None) ≡ not_clear_at 31 0 labels top.at top.rows top.columns mask
           → Filtered top column comparison operand m count after
-          → Done step supply m stack (record { answer = Made; stack = with_table stack top.slot width count }) after
+          → Done step supply m stack (Ok (with_table stack top.slot width count)) after
       filter-made count {after} e g =
           let rows = passing (passes column comparison operand) (marked_in m top) in
           let i = f.inside_is in
           let few : count ≤ 256 = omega (arith, g.counted, passing-fewer (passes column comparison operand) (marked_in m top), marked-count m i marked, i.few-rows) in
           rw f.width_is (made-done step supply m stack t top.slot top.columns count rows after f.is-ready room
-          (sym (says_is (searched place.Nowhere e))) f.here.low f.here.depth_is made-is i.few-columns few g.counted
+          (sym (says_is (searched (Ok None) e))) f.here.low f.here.depth_is made-is i.few-columns few g.counted
           (passing-wide top.columns (passes column comparison operand) (marked_in m top) (marked-are-wide m i marked))
           (at-is f.here) (rows_written rows g.cells g.kept.work) (marks-place f.here) (marks-put rows g.marks g.kept.marks))

@@ -12,10 +12,8 @@ ghost use Rattle.memory.specs.promises.Steps.{Done};
 ghost use Rattle.operand.specs.promises.Operands.{operand_at};
 ghost use Rattle.filter.specs.promises.Filtering as here;
 
-use cells::Place;
-use memory::{LiveTable, MARK_ROOM, Refusal, Stack, StepAnswer, Stepped};
+use memory::{LiveTable, MARK_ROOM, Refusal, Stack, StepError};
 use plan::{Comparison, Operand, Step};
-use widths::Width;
 
 // Keeps the rows of the top table in which the comparison of a column with the operand holds.
 pub fn filter(
@@ -26,52 +24,27 @@ pub fn filter(
     column: usize,
     comparison: Comparison,
     operand: Operand,
-) -> Stepped
+) -> Result<Stack, StepError>
     ensures { (supply : Supply) → Done (Filter column comparison operand) supply
         (memory_of values.old labels.old marks.old) stack result
         (memory_of values.new labels.new marks.new) }
 {
     if marks.len() < MARK_ROOM {
-        return Stepped {
-            answer: StepAnswer::DoesNotFit,
-            stack: stack,
-        };
+        return Err(StepError::DoesNotFit);
     }
     let step = Step::Filter {
         column,
         comparison,
         operand,
     };
-    let Width::Columns(columns) = memory::fit(values.len(), labels.len(), stack, step) else {
-        return Stepped {
-            answer: StepAnswer::DoesNotFit,
-            stack: stack,
-        };
-    };
+    let columns = memory::fit(values.len(), labels.len(), stack, step)?;
     let top = memory::live_table(stack, 0);
-    match search::not_clear(
-        labels,
-        top.at,
-        top.rows,
-        top.columns,
-        read_by(column, operand),
-    ) {
-        Place::At(row, place) => Stepped {
-            answer: StepAnswer::Refused(Refusal::NotClear(row, place)),
-            stack: stack,
-        },
-        Place::DoesNotFit => Stepped {
-            answer: StepAnswer::DoesNotFit,
-            stack: stack,
-        },
-        Place::Nowhere => {
-            let kept = filter_rows(values, labels, marks, top, column, comparison, operand);
-            Stepped {
-                answer: StepAnswer::Made,
-                stack: memory::with_table(stack, top.slot, columns, kept),
-            }
-        }
+    let read = read_by(column, operand);
+    if let Some(at) = search::not_clear(labels, top.at, top.rows, top.columns, read)? {
+        return Err(StepError::Refused(Refusal::NotClear(at)));
     }
+    let kept = filter_rows(values, labels, marks, top, column, comparison, operand);
+    Ok(memory::with_table(stack, top.slot, columns, kept))
 }
 
 // The columns that are read, as a mask.
@@ -102,18 +75,14 @@ fn filter_rows(
         (memory_of values.new labels.new marks.new) }
 {
     let mut kept = 0;
-    let mut from = top.at;
-    let mut to = top.at;
-    let mut row = 0;
-    while row < top.rows {
+    for row in 0..top.rows {
+        let from = top.at + row * top.columns;
         if passes(values, from, column, comparison, operand) {
+            let to = top.at + kept * top.columns;
             moves::move_cells(values, labels, from, to, top.columns);
             marks[top.marks + kept] = marks[top.marks + row];
-            to += top.columns;
             kept += 1;
         }
-        from += top.columns;
-        row += 1;
     }
     kept
 }

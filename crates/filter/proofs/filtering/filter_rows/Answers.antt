@@ -3,8 +3,7 @@ use mathlib.Core.Path.{◌≡◌}
 use native.Mathlib.Omega.{arith}
 use Rattle.cells.specs.promises.Work.{work, memory_of}
 use Rattle.cells.proofs.CellLaws.{values_moved, labels-moved}
-use Rattle.cells.proofs.Written.{as_long}
-use Rattle.filter.proofs.FilterLoop.{Stand, places, mark-places, values-reach, in-values, in-labels, passed, failed, filter-begins, filter-ends}
+use Rattle.filter.proofs.FilterLoop.{Stand, values-reach, in-values, in-labels, passed, failed, filter-begins, filter-ends}
 use Rattle.filter.proofs.filtering.filter_rows.Goals as goal
 use Rattle.filter.proofs.filtering.filter_rows.Goals.{Start, else-passes, then-passes}
 
@@ -20,39 +19,6 @@ passes-requires c =
     let reach = values-reach (stand (goal.at.passes-requires c).Start) c.loop-row.invariant c.loop-row-test.true in
     omega (arith, reach, c.requires.column_lt_columns.0)
 
-pub overflow_add-marks : goal.overflow_add-marks
-overflow_add-marks c = omega (arith, mark-places (stand (goal.at.overflow_add-marks c).Start) c.loop-row.invariant c.loop-row-test.true)
-
-pub offset_bounds-marks-top : goal.offset_bounds-marks-top
-offset_bounds-marks-top c = omega (arith, mark-places (stand (goal.at.offset_bounds-marks-top c).Start) c.loop-row.invariant c.loop-row-test.true)
-
-pub bounds-marks-top : goal.bounds-marks-top
-bounds-marks-top c = omega (arith, mark-places (stand (goal.at.bounds-marks-top c).Start) c.loop-row.invariant c.loop-row-test.true)
-
-pub overflow_add-marks-then-passes : goal.overflow_add-marks-then-passes
-overflow_add-marks-then-passes c = omega (arith, mark-places (stand (goal.at.overflow_add-marks-then-passes c).Start) c.loop-row.invariant c.loop-row-test.true)
-
-pub offset_bounds-marks-top-then-passes : goal.offset_bounds-marks-top-then-passes
-offset_bounds-marks-top-then-passes c = omega (arith, mark-places (stand (goal.at.offset_bounds-marks-top-then-passes c).Start) c.loop-row.invariant c.loop-row-test.true)
-
-pub bounds-marks-top-then-passes : goal.bounds-marks-top-then-passes
-bounds-marks-top-then-passes c = omega (arith, mark-places (stand (goal.at.bounds-marks-top-then-passes c).Start) c.loop-row.invariant c.loop-row-test.true)
-
-pub overflow_add-to : goal.overflow_add-to
-overflow_add-to c = omega (arith, places (stand (goal.at.overflow_add-to c).Start) c.loop-row.invariant c.loop-row-test.true)
-
-pub overflow_add-kept : goal.overflow_add-kept
-overflow_add-kept c = omega (arith, places (stand (goal.at.overflow_add-kept c).Start) c.loop-row.invariant c.loop-row-test.true)
-
-pub overflow_add-from : goal.overflow_add-from
-overflow_add-from c = omega (arith, places (stand (goal.at.overflow_add-from c).Start) c.loop-row.invariant c.loop-row-test.true)
-
-pub overflow_add-row : goal.overflow_add-row
-overflow_add-row c = omega (arith, places (stand (goal.at.overflow_add-row c).Start) c.loop-row.invariant c.loop-row-test.true)
-
-pub loop-row-smaller : goal.loop-row-smaller
-loop-row-smaller c = omega (arith, c.loop-row-test.true)
-
 pub loop-row-preserved : goal.loop-row-preserved
 loop-row-preserved c =
     let a = c.args in
@@ -64,18 +30,9 @@ loop-row-preserved c =
       | then-passes m ↦ let moves = m.move_cells.ensures in
           let v = values_moved w (in-values i c.loop-row.invariant h) (in-labels i c.loop-row.invariant h) moves.value moves.values_after moves.labels_after in
           let k = labels-moved w (in-values i c.loop-row.invariant h) (in-labels i c.loop-row.invariant h) moves.value moves.values_after moves.labels_after in
-          rw (m.values-is, m.labels-is, m.marks-is, m.kept-is, m.to-is, v, k) (passed a.column a.comparison a.operand i c.loop-row.invariant h c.requires.column_lt_columns.0 c.requires.column_lt_columns.1 answer m.if-passes.true)
-      | else-passes m ↦ rw (m.values-is, m.labels-is, m.marks-is, m.kept-is, m.to-is) (failed a.column a.comparison a.operand i c.loop-row.invariant h c.requires.column_lt_columns.0 c.requires.column_lt_columns.1 answer m.if-passes.false)
+          rw (m.values-is, m.labels-is, m.marks-is, m.kept-is, v, k) (passed a.column a.comparison a.operand i c.loop-row.invariant h c.requires.column_lt_columns.0 c.requires.column_lt_columns.1 answer m.if-passes.true)
+      | else-passes m ↦ rw (m.values-is, m.labels-is, m.marks-is, m.kept-is) (failed a.column a.comparison a.operand i c.loop-row.invariant h c.requires.column_lt_columns.0 c.requires.column_lt_columns.1 answer m.if-passes.false)
     ]
-
-pub shape_of-values : goal.shape_of-values
-shape_of-values c = c.loop-row.invariant.same.as-many-values
-
-pub shape_of-labels : goal.shape_of-labels
-shape_of-labels c = c.loop-row.invariant.same.as-many-labels
-
-pub shape_of-marks : goal.shape_of-marks
-shape_of-marks c = as_long c.loop-row.invariant.marks
 
 pub returns : goal.returns
 returns c =

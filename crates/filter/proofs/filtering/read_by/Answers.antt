@@ -1,14 +1,7 @@
 -- `filter::filtering::read_by` meets its contract. Assumes nothing.
-use native.Mathlib.Omega.{arith}
 use Rattle.cells.proofs.Masks.{one-column, two-columns}
 use Rattle.operand.proofs.Laws.{column-below}
 use Rattle.filter.proofs.filtering.read_by.Goals as goal
-
-pub overflow_cast-result-in-Column-2 : goal.overflow_cast-result-in-Column-2
-overflow_cast-result-in-Column-2 c = omega (arith, column-below 8 c.in-Column.is c.requires.1)
-
-pub overflow_shl-result-in-Column-2 : goal.overflow_shl-result-in-Column-2
-overflow_shl-result-in-Column-2 c = omega (arith, column-below 8 c.in-Column.is c.requires.1)
 
 pub returns-in-Constant : goal.returns-in-Constant
 returns-in-Constant c = λ i h. rw c.in-Constant.is (one-column _ i c.requires.0 h)
