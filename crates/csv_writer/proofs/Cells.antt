@@ -9,7 +9,7 @@ use native.Mathlib.Omega.{arith}
 use lib.IntN.{ℤ, pos}
 use lib.Dec.{eqb}
 use lib.ListN.{length, get_or, take, drop, length-append, length-take, length-drop, drop_of_length-le}
-use lib.Seq.{drop-cons, get_or-take, take-add, length-take-le}
+use lib.Seq.{drop-cons, take-add, length-take-le}
 use borrow.Author.Tests.{eq-eqb, ne_eqb, eqb-true, eqb-false}
 use Rattle.cells.specs.promises.Search.{table_within}
 use Rattle.cells.proofs.Searching.{within-table}
@@ -36,13 +36,11 @@ other-left columns left h = rw (ne_eqb left 1 h)
 
 -- ---- a value, and what comes after it
 
-pub next-value : (columns left : ℕ) (values : List ℤ) (count i : ℕ) → i < count → count ≤ length values
-    → spelled columns left (drop i (take count values))
-    ≡ decimal (get_or values i (pos 0)) ++ (separator left ++ spelled columns (next_left columns left) (drop (i + 1) (take count values)))
+pub next-value : (columns left : ℕ) (values : List ℤ) (i : ℕ) → i < length values
+    → spelled columns left (drop i values)
+    ≡ decimal (get_or values i (pos 0)) ++ (separator left ++ spelled columns (next_left columns left) (drop (i + 1) values))
 unfolding spelled
-next-value columns left values count i h k =
-    let l : i < length (take count values) = omega (arith, length-take-le count values k) in
-    rw (drop-cons (take count values) i (pos 0) l, get_or-take count values i (pos 0) h, add-one i)
+next-value columns left values i h = rw (drop-cons values i (pos 0) h, add-one i)
 
 -- ---- rows
 
@@ -98,15 +96,15 @@ table-fits rows columns n e =
 
 -- ---- a loop over the values: what is left of the text, by its length or as it is
 
-pub next-counted : (columns left : ℕ) (values : List ℤ) (count i total bytes : ℕ) {v s next : ℕ} → i < count → count ≤ length values
-    → total ≡ bytes + length (spelled columns left (drop i (take count values))) → v ≡ length (decimal (get_or values i (pos 0))) → s ≡ length (separator left)
-    → next ≡ next_left columns left → total ≡ bytes + (v + s) + length (spelled columns next (drop (i + 1) (take count values)))
-next-counted columns left values count i total bytes h k e ve se ne =
-    let m = simp length-append at (ap length (next-value columns left values count i h k)) in
+pub next-counted : (columns left : ℕ) (values : List ℤ) (i total bytes : ℕ) {v s next : ℕ} → i < length values
+    → total ≡ bytes + length (spelled columns left (drop i values)) → v ≡ length (decimal (get_or values i (pos 0))) → s ≡ length (separator left)
+    → next ≡ next_left columns left → total ≡ bytes + (v + s) + length (spelled columns next (drop (i + 1) values))
+next-counted columns left values i total bytes h e ve se ne =
+    let m = simp length-append at (ap length (next-value columns left values i h)) in
     rw ne (omega arith)
 
-pub none_left : (columns left : ℕ) (values : List ℤ) (count i : ℕ) → count ≤ i → count ≤ length values → spelled columns left (drop i (take count values)) ≡ []
+pub none_left : (columns left : ℕ) (values : List ℤ) (i : ℕ) → length values ≤ i → spelled columns left (drop i values) ≡ []
 unfolding spelled
-none_left columns left values count i h k =
-    let e : drop i (take count values) ≡ [] = drop_of_length-le (take count values) {i = i} (omega (arith, length-take-le count values k)) in
+none_left columns left values i h =
+    let e : drop i values ≡ [] = drop_of_length-le values {i = i} h in
     rw e

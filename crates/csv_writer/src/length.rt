@@ -72,20 +72,14 @@ pub fn next_left(columns: usize, left: usize) -> usize
 pub fn text_length(values: &[i64], rows: usize, columns: usize) -> usize
     ensures { result ≡ text_length values.now rows columns }
 {
-    if columns == 0 {
+    if columns == 0 || !table_within(0, rows, columns, values.len()) {
         return 0;
     }
-    if !table_within(0, rows, columns, values.len()) {
-        return 0;
-    }
-    let count = rows * columns;
     let mut bytes = 3 * columns + 1;
     let mut left = columns;
-    let mut i = 0;
-    while i < count {
-        bytes += value_length(values[i]) + separator_length(left);
+    for &value in &values[..rows * columns] {
+        bytes += value_length(value) + separator_length(left);
         left = next_left(columns, left);
-        i += 1;
     }
     bytes
 }

@@ -6,7 +6,7 @@ ghost use Rattle.csv_writer.specs.promises.Cells.{pair_of, digit_pairs, separato
 ghost use Rattle.csv_writer.specs.promises.Writing.{writing_of, text_after};
 
 use crate::length::{digit_count, next_left, text_length};
-use csv_text::{end_byte, name_byte};
+use csv_text::{LINE_END, NAMES};
 use value::pattern::{magnitude, negative};
 
 // The two digits of each number below 100, one pair after the other. A function that names this list makes a copy of it at each call, so
@@ -65,8 +65,7 @@ fn put_line_end(text: &mut [u8], at: usize) -> usize
     requires { at + 2 ≤ length text.old }
     ensures { (result ≡ at + 2) × Written text.old at line_end text.new }
 {
-    text[at] = end_byte(0);
-    text[at + 1] = end_byte(1);
+    text[at..at + 2].copy_from_slice(&LINE_END);
     at + 2
 }
 
@@ -88,27 +87,21 @@ fn put_header(text: &mut [u8], columns: usize) -> usize
     ensures { (result ≡ 3 * columns + 1) × Written text.old 0 (header columns) text.new }
 {
     let count = 3 * columns - 1;
-    let mut i = 0;
-    while i < count {
-        text[i] = name_byte(i);
-        i += 1;
-    }
+    text[..count].copy_from_slice(&NAMES[..count]);
     put_line_end(text, count)
 }
 
-// Writes the first values from a place on, in rows of so many columns.
-fn put_rows(text: &mut [u8], at: usize, values: &[i64], count: usize, columns: usize)
-    requires { (1 ≤ columns) × (count ≤ length values.now) × (at + length (spelled columns columns (take count values.now)) ≤ length text.old) }
-    ensures { Written text.old at (spelled columns columns (take count values.now)) text.new }
+// Writes values from a place on, in rows of so many columns.
+fn put_rows(text: &mut [u8], at: usize, values: &[i64], columns: usize)
+    requires { (1 ≤ columns) × (at + length (spelled columns columns values.now) ≤ length text.old) }
+    ensures { Written text.old at (spelled columns columns values.now) text.new }
 {
     let mut to = at;
     let mut left = columns;
-    let mut i = 0;
-    while i < count {
-        to = put_value(text, to, values[i], &PAIRS);
+    for &value in values {
+        to = put_value(text, to, value, &PAIRS);
         to = put_separator(text, to, left);
         left = next_left(columns, left);
-        i += 1;
     }
 }
 
@@ -138,6 +131,6 @@ pub fn write_text(
         return Err(WritingError::TooShort);
     }
     let at = put_header(text, columns);
-    put_rows(text, at, values, rows * columns, columns);
+    put_rows(text, at, &values[..rows * columns], columns);
     Ok(needed)
 }

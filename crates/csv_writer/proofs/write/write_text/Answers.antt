@@ -48,7 +48,7 @@ pub put_rows-requires : goal.put_rows-requires
 put_rows-requires c =
     let a = c.args in
     let p = parts (goal.at.put_rows-requires c).Else-needed-eq0 in
-    (p.0, p.2, omega (arith, room (goal.at.put_rows-requires c).Else-text-needed, length-is a.values.now a.rows a.columns (table (goal.at.put_rows-requires c).Else-needed-eq0).0, c.put_header-at.ensures.0, as_long c.put_header-at.ensures.1))
+    (p.0, omega (arith, room (goal.at.put_rows-requires c).Else-text-needed, length-is a.values.now a.rows a.columns (table (goal.at.put_rows-requires c).Else-needed-eq0).0, c.put_header-at.ensures.0, as_long c.put_header-at.ensures.1))
 
 pub returns : goal.returns
 returns c =
