@@ -2,12 +2,14 @@
 ghost use Rattle.std.specs.Prelude.{◌≡◌};
 ghost use Rattle.plan.specs.Steps as spec;
 
-use super::numbers::kind_of;
 use plan::Step;
 
-// How many draws a step uses on a table of so many rows: NOISE, kind 8, one for each, and no other step any.
+// How many draws a step uses on a table of so many rows: NOISE one for each, and no other step any.
 pub fn draws_used(step: Step, rows: usize) -> usize
     ensures { result ≡ spec.draws_used step rows }
 {
-    if kind_of(step) == 8 { rows } else { 0 }
+    match step {
+        Step::Noise { .. } => rows,
+        _ => 0,
+    }
 }

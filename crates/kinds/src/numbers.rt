@@ -9,24 +9,13 @@ pub fn kind_of(step: Step) -> u32
     ensures { result ≡ spec.kind_of step }
 {
     match step {
-        Step::Scan { table: _ } => 1,
+        Step::Scan { .. } => 1,
         Step::Union => 2,
-        Step::Join { left: _, right: _ } => 3,
-        Step::Filter {
-            column: _,
-            comparison: _,
-            operand: _,
-        } => 4,
-        Step::Keep { mask: _ } => 5,
-        Step::Apply {
-            column: _,
-            transform: _,
-        } => 6,
-        Step::Group {
-            keys: _,
-            aggregate: _,
-            column: _,
-        } => 7,
-        Step::Noise { column: _ } => 8,
+        Step::Join { .. } => 3,
+        Step::Filter { .. } => 4,
+        Step::Keep { .. } => 5,
+        Step::Apply { .. } => 6,
+        Step::Group { .. } => 7,
+        Step::Noise { .. } => 8,
     }
 }

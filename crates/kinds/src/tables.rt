@@ -3,16 +3,18 @@ ghost use Rattle.std.specs.Prelude.{◌≡◌};
 ghost use Rattle.plan.specs.Steps as steps;
 ghost use Rattle.plan.specs.Widths as spec;
 
-use super::numbers::kind_of;
 use plan::Step;
 
-// How many tables a step takes off the stack, by its kind, 1 to 8.
+// How many tables a step takes off the stack.
 pub fn takes(step: Step) -> usize
     ensures { result ≡ steps.takes step }
 {
-    let kind = kind_of(step) as usize;
-    let taken = [0, 2, 2, 1, 1, 1, 1, 1];
-    taken[kind - 1]
+    match step {
+        Step::Scan { .. } => 0,
+        Step::Union | Step::Join { .. } => 2,
+        Step::Filter { .. } | Step::Keep { .. } => 1,
+        Step::Apply { .. } | Step::Group { .. } | Step::Noise { .. } => 1,
+    }
 }
 
 // 18: whether so many tables are enough for a step, and leave room for a SCAN.
