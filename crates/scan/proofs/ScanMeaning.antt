@@ -1,7 +1,7 @@
 -- SCAN in work memory and its meaning. Assumes nothing.
 use Prim.Native.Nat.{ℕ, ◌+◌, ◌-◌, ◌*◌, ◌≤◌, ◌<◌}
 use mathlib.Core.Path.{◌≡◌, refl, sym, ap, ap₂, ◌∙◌}
-use mathlib.Core.Bool.{Bool, true, false, cond, ◌&&◌, and-eq-true_iff}
+use mathlib.Core.Bool.{Bool, true, cond, ◌&&◌, and-eq-true_iff}
 use mathlib.Core.List.{List, [], ◌∷◌, ◌++◌, map, append_assoc}
 use native.Mathlib.Nat.{add-zero, mul-le-mul}
 use native.Mathlib.Omega.{arith}
@@ -20,7 +20,7 @@ use Rattle.container.specs.Contents.{tables_of}
 use Rattle.layout.specs.Layout.{part_count, part_of}
 use Rattle.mark_reader.specs.promises.Marks as of-marks
 use Rattle.live_tables.specs.declared.Stack.{Stack}
-use Rattle.memory.specs.declared.StepAnswer.TheVariants.{Made}
+use Rattle.std.specs.Prelude.{Option, Some, Ok}
 use Rattle.memory.specs.promises.Stack.{Ready, slot, mark_slot, stack_in, widths_to, with_table}
 use Rattle.memory.specs.promises.Steps.{verdict, fits, widths_of, DoneWhere}
 use Rattle.plan.specs.Scan.{scanned}
@@ -32,8 +32,6 @@ use Rattle.scan.specs.promises.Scanning.{cells_fit, table_fits, scan_fits}
 use Rattle.table_part.specs.TablePart.{columns_of, sheets_of, row_count, cell_count, cells_from, table_of}
 use Rattle.table_part.specs.declared.Shape.{Shape}
 use Rattle.table_part.specs.promises.Shape.{shape_of}
-use Rattle.table_reader.specs.declared.Reading.{Reading}
-use Rattle.table_reader.specs.declared.Reading.TheVariants as reading
 use Rattle.table_reader.specs.promises.Reading.{readable, overwritten, reading_of, values_after, labels_after, Read}
 use Rattle.cells.proofs.CellLaws.{cells-length, cells-append, cells-drop, cells-take, marks-written}
 use Rattle.cells.proofs.RowReads.{flat-marked}
@@ -82,13 +80,6 @@ scan-parts bytes table values labels marks stack bounds t =
       named = leb-true _ _ header.1;
       whole = leb-true _ _ cells.1;
     }
-
-pub narrow-twice : (part : List ℕ) → cells_fit part ≡ (leb (columns_of part) 8 && cells_fit part)
-narrow-twice part = twice (leb (columns_of part) 8) _ _ _
-  where
-    twice : (a b c d : Bool) → (a && b && c && d) ≡ (a && (a && b && c && d))
-    twice true b c d = refl
-    twice false b c d = refl
 
 -- cells taken apart and put together
 again : (cells : List Cell) → cells_of (map (λ cell. cell.value) cells) (map (λ cell. cell.label) cells) ≡ cells
@@ -148,11 +139,11 @@ module _ (bytes : List ℕ) (table : ℕ) (m : Memory) (stack : Stack)
   )
 
   -- what reading answers and leaves
-  pub scan-answer : {answer : Reading} {v' : List ℤ} {l' : List ℕ} → Read part w.values w.labels at answer v' l' → answer ≡ reading.Cells (shape_of part)
+  pub scan-answer : {answer : Option Shape} {v' : List ℤ} {l' : List ℕ} → Read part w.values w.labels at answer v' l' → answer ≡ Some (shape_of part)
   unfolding reading_of
   scan-answer r = r.answers ∙ rw can-read
 
-  pub scan-after : {answer : Reading} {v' : List ℤ} {l' : List ℕ} → Read part w.values w.labels at answer v' l' → work v' l' ≡ after
+  pub scan-after : {answer : Option Shape} {v' : List ℤ} {l' : List ℕ} → Read part w.values w.labels at answer v' l' → work v' l' ≡ after
   unfolding values_after labels_after
   scan-after r = ap₂ work (r.writes_values ∙ rw can-read) (r.writes_labels ∙ rw can-read)
 
@@ -220,7 +211,7 @@ module _ (bytes : List ℕ) (table : ℕ) (m : Memory) (stack : Stack)
 
   pub scan-made : {fit : Bool} → fit ≡ true → {shape : Shape} {stack' : Stack} {w' : Work} {marks' : List ℕ} → shape ≡ shape_of part
       → stack' ≡ with_table stack stack.depth shape.columns shape.rows → w' ≡ after → marks' ≡ of-marks.marks_after part table m.marks mark_at → (draws : List ℤ)
-      → DoneWhere fit (Scan table) (supplied (tables_of bytes) draws) m stack (record { answer = Made; stack = stack' }) (record { work = w'; marks = marks' })
+      → DoneWhere fit (Scan table) (supplied (tables_of bytes) draws) m stack (Ok stack') (record { work = w'; marks = marks' })
   unfolding shape_of
   scan-made t shaped stacked left marked draws =
       let own : Written m.marks mark_at (map (λ row. row.mark) rows) (of-marks.marks_after part table m.marks mark_at) = rw (marks-are (columns_of part) marks cells) written-marks in
@@ -230,9 +221,3 @@ module _ (bytes : List ℕ) (table : ℕ) (m : Memory) (stack : Stack)
       (marked-wide (columns_of part) marks cells (rw marks-count (omega (arith, cells_count))))
       refl (rows_written rows (rw all-cells written-cells) kept)
       refl (marks-put rows own (marks-written written-marks (omega (arith, marks-count, f.room-left, f.short)))))
-
-pub cells-differ : {shape : Shape} → reading.DoesNotFit ≡ reading.Cells shape → ⊥
-cells-differ e = let z : ◌≡◌ {A = ℕ} 0 1 = cc in omega arith
-
-pub shape-of-cells : {shape other : Shape} → reading.Cells shape ≡ reading.Cells other → shape ≡ other
-shape-of-cells e = cc

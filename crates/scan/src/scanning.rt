@@ -8,8 +8,7 @@ ghost use Rattle.plan.specs.declared.Step.TheVariants.{Scan};
 ghost use Rattle.scan.specs.promises.Scanning as spec;
 
 use little_endian::byte;
-use memory::{MARK_ROOM, MARK_SLOT, SLOT, Stack, StepAnswer, Stepped};
-use table_reader::Reading;
+use memory::{MARK_ROOM, MARK_SLOT, SLOT, Stack, StepError};
 
 // Pushes a table of the container.
 pub fn scan(
@@ -19,74 +18,46 @@ pub fn scan(
     marks: &mut [u64],
     stack: Stack,
     table: usize,
-) -> Stepped
+) -> Result<Stack, StepError>
     ensures { (draws : List ℤ) → DoneWhere (spec.scan_fits container.now table (length values.old)
         (length labels.old) (length marks.old) stack) (Scan table) (supplied (tables_of container.now) draws)
         (memory_of values.old labels.old marks.old) stack result
         (memory_of values.new labels.new marks.new) }
 {
     if marks.len() < MARK_ROOM {
-        return Stepped {
-            answer: StepAnswer::DoesNotFit,
-            stack: stack,
-        };
+        return Err(StepError::DoesNotFit);
     }
     if !scan_fits(container, values.len(), labels.len(), stack, table) {
-        return Stepped {
-            answer: StepAnswer::DoesNotFit,
-            stack: stack,
-        };
+        return Err(StepError::DoesNotFit);
     }
     let slot = stack.depth;
     let part = layout::part(container, table + 1);
-    match table_reader::read_cells(part, values, labels, SLOT * slot) {
-        Reading::Cells(shape) => {
-            mark_reader::read_marks(part, table, marks, MARK_SLOT * slot);
-            Stepped {
-                answer: StepAnswer::Made,
-                stack: memory::with_table(stack, slot, shape.columns, shape.rows),
-            }
-        }
-        Reading::DoesNotFit => Stepped {
-            answer: StepAnswer::DoesNotFit,
-            stack: stack,
-        },
-    }
+    let Some(shape) = table_reader::read_cells(part, values, labels, SLOT * slot) else {
+        return Err(StepError::DoesNotFit);
+    };
+    mark_reader::read_marks(part, table, marks, MARK_SLOT * slot);
+    Ok(memory::with_table(stack, slot, shape.columns, shape.rows))
 }
 
 // Whether the slices and the stack fit, and the container has the table, with cells that fit a slot.
+#[tactic(auto, using(crate::proofs::Tables::table_fits_is))]
 fn scan_fits(container: &[u8], values: usize, labels: usize, stack: Stack, table: usize) -> bool
     ensures { result ≡ spec.table_fits container.now table values labels stack }
 {
-    if !memory::ready(values, labels, stack) {
-        return false;
-    }
-    if 3 <= stack.depth {
-        return false;
-    }
-    let parts = layout::part_count(container);
-    if parts <= table {
-        return false;
-    }
-    if parts - table < 2 {
-        return false;
-    }
-    cells_fit(layout::part(container, table + 1))
+    memory::ready(values, labels, stack)
+        && stack.depth < 3
+        && table < layout::part_count(container).saturating_sub(1)
+        && cells_fit(layout::part(container, table + 1))
 }
 
 // Whether a table part has at most 256 rows and 8 columns, the column that byte 1 names, and the bytes of all its cells.
+#[tactic(auto, unfolding(table_part::specs::promises::Shape::shape_of))]
 fn cells_fit(part: &[u8]) -> bool
     ensures { result ≡ spec.cells_fit part.now }
 {
     let shape = table_part::shape_of(part);
-    if 8 < shape.columns {
-        return false;
-    }
-    if 256 < shape.rows {
-        return false;
-    }
-    if shape.columns < byte(part, 1) as usize {
-        return false;
-    }
-    4 + 12 * (shape.rows * shape.columns) <= part.len()
+    shape.columns <= 8
+        && shape.rows <= 256
+        && byte(part, 1) as usize <= shape.columns
+        && 4 + 12 * (shape.rows * shape.columns) <= part.len()
 }
