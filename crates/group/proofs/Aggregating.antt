@@ -15,12 +15,12 @@ use Rattle.group.proofs.Choosing.{chosen-fewer}
 use Rattle.accumulator.proofs.Laws.{value-is}
 use Rattle.cells.proofs.Rows.{rows-length}
 
-module _ (g : Grouping) (memory : List Cell) (leaders : List ℕ) (row : ℕ) (s : Accumulator) (few : g.rows ≤ 256) (h : row < g.rows)
+module _ (g : Grouping) (memory : List Cell) (leaders : List ℕ) (row : ℕ) (s : Accumulator) (few : g.table.rows ≤ 256) (h : row < g.table.rows)
     (e : s ≡ with_values (single (cell_at g.column (row_of g memory row)).value) (column_values g.column (later g memory leaders row))) where
-  few-later : length (later g memory leaders row) < g.rows
+  few-later : length (later g memory leaders row) < g.table.rows
   few-later =
-      let after = drop (g.at + (row + 1) * g.columns) memory in
-      omega (arith, chosen-fewer row (drop (row + 1) leaders) (rows_from g memory (row + 1)), rows-length g.columns (g.rows - (row + 1)) after)
+      let after = drop (g.table.at + (row + 1) * g.table.columns) memory in
+      omega (arith, chosen-fewer row (drop (row + 1) leaders) (rows_from g memory (row + 1)), rows-length g.table.columns (g.table.rows - (row + 1)) after)
 
   first : ℤ
   first = (cell_at g.column (row_of g memory row)).value

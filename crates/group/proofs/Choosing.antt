@@ -128,4 +128,4 @@ rows_drop columns (suc rows) (suc n) cells =
     rows_drop columns rows n (drop columns cells) ∙ ap₂ (bare_rows columns) (sym e) (drop-drop (n * columns) columns cells ∙ ap (λ (k : ℕ). drop k cells) m)
 
 pub rows-left : (g : Grouping) (memory : List Cell) (row : ℕ) → rows_from g memory row ≡ drop row (grouped_rows g memory)
-rows-left g memory row = sym (rows_drop g.columns g.rows row (drop g.at memory) ∙ ap (bare_rows g.columns (g.rows - row)) (drop-drop (row * g.columns) g.at memory))
+rows-left g memory row = sym (rows_drop g.table.columns g.table.rows row (drop g.table.at memory) ∙ ap (bare_rows g.table.columns (g.table.rows - row)) (drop-drop (row * g.table.columns) g.table.at memory))

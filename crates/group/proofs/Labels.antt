@@ -9,28 +9,29 @@ use Rattle.label_words.specs.Answers.{label_says, label}
 use Rattle.label_composition.specs.Composition.{composed, compose_answer}
 use Rattle.label_discharge.specs.Discharge.{after_a, aggregate_exists, aggregated, aggregate_answer}
 use Rattle.label_words.specs.WellFormed.{well_formed}
-use Rattle.label_words.specs.declared.LabelAnswer.{LabelAnswer}
-use Rattle.label_words.specs.declared.LabelAnswer.TheVariants.{Label, Forbidden, IllFormed, NoOperation}
+use Rattle.std.specs.Prelude.{Result, Ok, Err}
+use Rattle.label_words.specs.declared.LabelRefusal.{LabelRefusal}
+use Rattle.label_words.specs.declared.LabelRefusal.TheVariants.{Forbidden, IllFormed, NoOperation}
 use Rattle.plan.specs.Group.{composed_after}
 use Rattle.plan.specs.Table.{Each, Row, cell_at}
 use Rattle.label_laws.proofs.Laws.{compose-well-formed, after-A-well-formed, zero-well-formed}
 
-pub is-label : (answer : LabelAnswer) (word : ℕ) → label_says answer ≡ label word → answer ≡ Label word
-is-label (Label w) word e = cc
-is-label Forbidden word e = cc
-is-label IllFormed word e = cc
-is-label NoOperation word e = cc
+pub is-label : (answer : Result ℕ LabelRefusal) (word : ℕ) → label_says answer ≡ label word → answer ≡ Ok word
+is-label (Ok w) word e = cc
+is-label (Err Forbidden) word e = cc
+is-label (Err IllFormed) word e = cc
+is-label (Err NoOperation) word e = cc
 
-pub discharged : (answer : LabelAnswer) (word code rows : ℕ) → label_says answer ≡ aggregate_answer word code rows → AllowedLabel word → code < 5 → answer ≡ Label (after_a word code rows)
+pub discharged : (answer : Result ℕ LabelRefusal) (word code rows : ℕ) → label_says answer ≡ aggregate_answer word code rows → AllowedLabel word → code < 5 → answer ≡ Ok (after_a word code rows)
 unfolding aggregate_answer aggregate_exists aggregated
 discharged answer word code rows e a h = is-label answer (after_a word code rows) (e ∙ rw (a.0, lt-ltb code 5 h, a.1))
 
-pub composes : (answer : LabelAnswer) (a b : ℕ) → label_says answer ≡ compose_answer a b → well_formed a ≡ true → well_formed b ≡ true → answer ≡ Label (composed a b)
+pub composes : (answer : Result ℕ LabelRefusal) (a b : ℕ) → label_says answer ≡ compose_answer a b → well_formed a ≡ true → well_formed b ≡ true → answer ≡ Ok (composed a b)
 unfolding compose_answer
 composes answer a b e p q = is-label answer (composed a b) (e ∙ rw (p, q))
 
 -- what stands in the answer
-pub word_of : {answer : LabelAnswer} {a b : ℕ} → answer ≡ Label a → answer ≡ Label b → a ≡ b
+pub word_of : {answer : Result ℕ LabelRefusal} {a b : ℕ} → answer ≡ Ok a → answer ≡ Ok b → a ≡ b
 word_of p q = cc
 
 -- a label composed with a row's, discharged

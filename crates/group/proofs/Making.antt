@@ -88,7 +88,7 @@ module _ (g : Grouping) (before : Memory) where
   memory = cells_in before.work
 
   abbrev row_marks : List ℕ
-  row_marks = mark_part before.marks g.marks g.rows
+  row_marks = mark_part before.marks g.table.marks g.table.rows
 
   -- the table's rows
   abbrev table : List Row
@@ -96,12 +96,12 @@ module _ (g : Grouping) (before : Memory) where
 
   -- one of them
   abbrev row_at : ℕ → Row
-  row_at row = record { cells = (row_of g memory row).cells; mark = get_or before.marks (g.marks + row) 0 }
+  row_at row = record { cells = (row_of g memory row).cells; mark = get_or before.marks (g.table.marks + row) 0 }
 
   -- the groups that are written, and the rows that are passed
   pub record Making (m : Memory) (count row : ℕ) : Type 0 where
     pub done : List (List Row)
-    pub rest : groups_after g.keys g.columns [] table ≡ done ++ groups_after g.keys g.columns (take row table) (drop row table)
+    pub rest : groups_after g.keys g.table.columns [] table ≡ done ++ groups_after g.keys g.table.columns (take row table) (drop row table)
     pub counted : count ≡ length done
     pub wide : Each (Wide g.width) (map (row_of_group g) done)
     pub written : Written memory last_slot (flat (map (row_of_group g) done)) (cells_in m.work)
@@ -123,45 +123,45 @@ module _ (g : Grouping) (before : Memory) where
       kept = kept-none before.work;
     }
 
-    as-many-marks : length row_marks ≡ g.rows
-    as-many-marks = marks-count before.marks g.marks g.rows (omega (arith, marked.below, marked.mark-room))
+    as-many-marks : length row_marks ≡ g.table.rows
+    as-many-marks = marks-count before.marks g.table.marks g.table.rows (omega (arith, marked.below, marked.mark-room))
 
     bare-table : map bare table ≡ grouped_rows g memory
-    bare-table = bare-rows g.columns row_marks (drop g.at memory) ∙ ap (λ (n : ℕ). bare_rows g.columns n (drop g.at memory)) as-many-marks
+    bare-table = bare-rows g.table.columns row_marks (drop g.table.at memory) ∙ ap (λ (n : ℕ). bare_rows g.table.columns n (drop g.table.at memory)) as-many-marks
 
-    as_many : length table ≡ g.rows
-    as_many = marked-length g.columns row_marks (drop g.at memory) ∙ as-many-marks
+    as_many : length table ≡ g.table.rows
+    as_many = marked-length g.table.columns row_marks (drop g.table.at memory) ∙ as-many-marks
 
     -- the table below is as it was
     pub same_rows : (m : Memory) (count row : ℕ) → Making m count row → grouped_rows g (cells_in m.work) ≡ grouped_rows g memory
     same_rows m count row k =
-        rows-still before.work m.work long (as_long k.written) g.at last_slot g.columns (no_marks g.rows) (rw (no-marks g.rows) source.below) (omega arith) (below-written k.written)
+        rows-still before.work m.work long (as_long k.written) g.table.at last_slot g.table.columns (no_marks g.table.rows) (rw (no-marks g.table.rows) source.below) (omega arith) (below-written k.written)
 
     -- and so are its marks
-    pub same-marks : (m : Memory) (count row : ℕ) → Making m count row → mark_part m.marks g.marks g.rows ≡ row_marks
+    pub same-marks : (m : Memory) (count row : ℕ) → Making m count row → mark_part m.marks g.table.marks g.table.rows ≡ row_marks
     same-marks m count row k =
-        part-still before.marks m.marks g.marks g.rows last_marks marked.below (omega (arith, marked.mark-room)) (as_long k.marks) (below-written k.marks)
+        part-still before.marks m.marks g.table.marks g.table.rows last_marks marked.below (omega (arith, marked.mark-room)) (as_long k.marks) (below-written k.marks)
 
-    pub same-mark : (m : Memory) (count row other : ℕ) → Making m count row → other < g.rows → get_or m.marks (g.marks + other) 0 ≡ get_or before.marks (g.marks + other) 0
-    same-mark m count row other k h = read_below k.marks (g.marks + other) 0 (omega (arith, marked.below))
+    pub same-mark : (m : Memory) (count row other : ℕ) → Making m count row → other < g.table.rows → get_or m.marks (g.table.marks + other) 0 ≡ get_or before.marks (g.table.marks + other) 0
+    same-mark m count row other k h = read_below k.marks (g.table.marks + other) 0 (omega (arith, marked.below))
 
-    module _ (leaders : List ℕ) (known : take g.rows leaders ≡ leaders_after g.keys g.columns [] (grouped_rows g memory)) (m : Memory) (count row : ℕ) (k : Making m count row) (h : row < g.rows) where
-      known-all : take (length table) leaders ≡ leaders_after g.keys g.columns [] table
-      known-all = rw as_many (known ∙ ap (leaders_after g.keys g.columns []) (sym bare-table) ∙ leaders-bare g.keys g.columns [] table)
+    module _ (leaders : List ℕ) (known : take g.table.rows leaders ≡ leaders_after g.keys g.table.columns [] (grouped_rows g memory)) (m : Memory) (count row : ℕ) (k : Making m count row) (h : row < g.table.rows) where
+      known-all : take (length table) leaders ≡ leaders_after g.keys g.table.columns [] table
+      known-all = rw as_many (known ∙ ap (leaders_after g.keys g.table.columns []) (sym bare-table) ∙ leaders-bare g.keys g.table.columns [] table)
 
       inside : row < length table
       inside = rw as_many h
 
       itself : get_or table row (row_at row) ≡ row_at row
       itself =
-          marked-at g.columns row row_marks (drop g.at memory) (row_at row) (rw as-many-marks h)
-          ∙ ap₂ (λ (l : List Cell) (n : ℕ). record { cells = take g.columns l; mark = n }) (drop-drop (row * g.columns) g.at memory)
-          (get_or-take g.rows (drop g.marks before.marks) row 0 h ∙ get_or-drop g.marks before.marks row 0)
+          marked-at g.table.columns row row_marks (drop g.table.at memory) (row_at row) (rw as-many-marks h)
+          ∙ ap₂ (λ (l : List Cell) (n : ℕ). record { cells = take g.table.columns l; mark = n }) (drop-drop (row * g.table.columns) g.table.at memory)
+          (get_or-take g.table.rows (drop g.table.marks before.marks) row 0 h ∙ get_or-drop g.table.marks before.marks row 0)
 
       pub row-passed : (get_or leaders row 0 ≡ row → ⊥) → Making m count (row + 1)
       row-passed n = record {
         done = k.done;
-        rest = k.rest ∙ ap (λ (l : List (List Row)). k.done ++ l) (group-none g.keys g.columns table leaders known-all row (row_at row) inside itself n);
+        rest = k.rest ∙ ap (λ (l : List (List Row)). k.done ++ l) (group-none g.keys g.table.columns table leaders known-all row (row_at row) inside itself n);
         counted = k.counted;
         wide = k.wide;
         written = k.written;
@@ -179,37 +179,37 @@ module _ (g : Grouping) (before : Memory) where
           let same = same_rows m count row k in
           let d = row_of g memory row in
           let leader : row_of g (cells_in m.work) row ≡ d
-          = sym (row-of g.columns g.rows g.at (cells_in m.work) row d h) ∙ ap (λ (rows : List Row). get_or rows row d) same ∙ row-of g.columns g.rows g.at memory row d h in
+          = sym (row-of g.table.columns g.table.rows g.table.at (cells_in m.work) row d h) ∙ ap (λ (rows : List Row). get_or rows row d) same ∙ row-of g.table.columns g.table.rows g.table.at memory row d h in
           ap₂ (λ (x : Row) (rows : List Row). x ∷ chosen row (drop (row + 1) leaders) rows) leader (rows-left g (cells_in m.work) (row + 1) ∙ ap (drop (row + 1)) (same ∙ sym bare-table))
           ∙ ap (λ (rows : List Row). d ∷ rows) (ap (chosen row (drop (row + 1) leaders)) (drop-map bare (row + 1) table) ∙ chosen-map bare row (drop (row + 1) leaders) (drop (row + 1) table))
 
       -- its marks
       led-marks : get_or leaders row 0 ≡ row → chosen row (drop row leaders) (drop row row_marks) ≡ map (λ row. row.mark) led
       led-marks e =
-          let many : row < length leaders = omega (arith, ap length known, length-take g.rows leaders, leaders-long) in
+          let many : row < length leaders = omega (arith, ap length known, length-take g.table.rows leaders, leaders-long) in
           let first : drop row row_marks ≡ (row_at row).mark ∷ drop (row + 1) row_marks
           = drop-cons row_marks row 0 (rw as-many-marks h)
-          ∙ ap₂ (λ (x n : ℕ). x ∷ drop n row_marks) (get_or-take g.rows (drop g.marks before.marks) row 0 h ∙ get_or-drop g.marks before.marks row 0) (sym (add-one row)) in
+          ∙ ap₂ (λ (x n : ℕ). x ∷ drop n row_marks) (get_or-take g.table.rows (drop g.table.marks before.marks) row 0 h ∙ get_or-drop g.table.marks before.marks row 0) (sym (add-one row)) in
           rw (first, numbers-next leaders row many, eq-eqb (get_or leaders row 0) row e)
           (ap (λ (l : List ℕ). (row_at row).mark ∷ l)
-          (ap (λ (l : List ℕ). chosen row (drop (row + 1) leaders) (drop (row + 1) l)) (sym (marks-are g.columns row_marks (drop g.at memory)))
+          (ap (λ (l : List ℕ). chosen row (drop (row + 1) leaders) (drop (row + 1) l)) (sym (marks-are g.table.columns row_marks (drop g.table.at memory)))
           ∙ ap (chosen row (drop (row + 1) leaders)) (drop-map (λ row. row.mark) (row + 1) table) ∙ chosen-map (λ row. row.mark) row (drop (row + 1) leaders) (drop (row + 1) table)))
         where
-          leaders-long : length (leaders_after g.keys g.columns [] (grouped_rows g memory)) ≡ g.rows
-          leaders-long = leaders-count g.keys g.columns [] (grouped_rows g memory) ∙ rows-length g.columns g.rows (drop g.at memory)
+          leaders-long : length (leaders_after g.keys g.table.columns [] (grouped_rows g memory)) ≡ g.table.rows
+          leaders-long = leaders-count g.keys g.table.columns [] (grouped_rows g memory) ∙ rows-length g.table.columns g.table.rows (drop g.table.at memory)
 
       group-cells : (sheets : ℕ) → sheets ≡ group_size led → group_cells g (cells_in m.work) leaders row sheets ≡ (row_of_group g led).cells
       group-cells sheets e =
-          ap₂ (λ (rows : List Row) (n : ℕ). kept_cells g.keys g.columns (get_or rows 0 (row_at row)) ++ (aggregate_cell g.aggregate (map (cell_at g.column) rows) n ∷ [])) now-members e
-          ∙ ap₂ (λ (cells : List Cell) (all : List Cell). cells ++ (aggregate_cell g.aggregate all (group_size led) ∷ [])) (kept-bare g.keys g.columns (row_at row)) (column-bare g.column led)
+          ap₂ (λ (rows : List Row) (n : ℕ). kept_cells g.keys g.table.columns (get_or rows 0 (row_at row)) ++ (aggregate_cell g.aggregate (map (cell_at g.column) rows) n ∷ [])) now-members e
+          ∙ ap₂ (λ (cells : List Cell) (all : List Cell). cells ++ (aggregate_cell g.aggregate all (group_size led) ∷ [])) (kept-bare g.keys g.table.columns (row_at row)) (column-bare g.column led)
 
       pub group-made : (after : Work) {to sheets : ℕ} → count ≤ row → get_or leaders row 0 ≡ row → to ≡ last_slot + count * g.width
           → sheets ≡ distinct (chosen row (drop row leaders) (drop row row_marks)) → Put to (group_cells g (cells_in m.work) leaders row sheets) m.work after
-          → Making (record { work = after; marks = set m.marks (last_marks + count) (get_or m.marks (g.marks + row) 0) }) (count + 1) (row + 1)
+          → Making (record { work = after; marks = set m.marks (last_marks + count) (get_or m.marks (g.table.marks + row) 0) }) (count + 1) (row + 1)
       group-made after {to} {sheets} upto e to_is counted put =
           let place : to ≡ last_slot + length (flat (map (row_of_group g) k.done))
           = to_is ∙ ap (λ (n : ℕ). last_slot + n) (sym (flat-length g.width (map (row_of_group g) k.done) k.wide ∙ ap (λ (n : ℕ). n * g.width) (length-map k.done (row_of_group g) ∙ sym k.counted))) in
-          let next = group-next g.keys g.columns table leaders known-all row (row_at row) inside itself e in
+          let next = group-next g.keys g.table.columns table leaders known-all row (row_at row) inside itself e in
           let cells = group-cells sheets (counted ∙ ap distinct (led-marks e) ∙ size_is led) in
           let many : length (map (λ row. row.mark) (map (row_of_group g) k.done)) ≡ count = length-map (map (row_of_group g) k.done) (λ row. row.mark) ∙ length-map k.done (row_of_group g) ∙ sym k.counted in
           record {
@@ -224,14 +224,14 @@ module _ (g : Grouping) (before : Memory) where
           }
         where
           group-wide : length (row_of_group g led).cells ≡ g.width
-          group-wide = length-append (kept_cells g.keys g.columns (row_at row)) _ ∙ ap (λ (n : ℕ). n + 1) (kept-length g.keys g.columns (row_at row)) ∙ sym source.width_is
+          group-wide = length-append (kept_cells g.keys g.table.columns (row_at row)) _ ∙ ap (λ (n : ℕ). n + 1) (kept-length g.keys g.table.columns (row_at row)) ∙ sym source.width_is
 
-    pub all_made : (m : Memory) (count row : ℕ) → Making m count row → g.rows ≤ row → AllMade g before count m
+    pub all_made : (m : Memory) (count row : ℕ) → Making m count row → g.table.rows ≤ row → AllMade g before count m
     all_made m count row k h =
         let full : length table ≤ row = rw as_many h in
         let none : drop row table ≡ [] = drop_of_length-le table full in
-        let all : groups_after g.keys g.columns [] table ≡ k.done
-        = k.rest ∙ ap (λ (l : List Row). k.done ++ groups_after g.keys g.columns (take row table) l) none ∙ append-nil k.done in
+        let all : groups_after g.keys g.table.columns [] table ≡ k.done
+        = k.rest ∙ ap (λ (l : List Row). k.done ++ groups_after g.keys g.table.columns (take row table) l) none ∙ append-nil k.done in
         record {
           counted = k.counted ∙ sym (length-map k.done (row_of_group g)) ∙ ap (λ (l : List (List Row)). length (map (row_of_group g) l)) (sym all);
           wide = rw all k.wide;
@@ -245,8 +245,8 @@ few-made {g} {before} source marked k =
     omega (
       arith,
       k.counted,
-      length-map (groups_after g.keys g.columns [] (grouped_marked g before)) (row_of_group g),
-      groups-fewer g.keys g.columns [] (grouped_marked g before),
+      length-map (groups_after g.keys g.table.columns [] (grouped_marked g before)) (row_of_group g),
+      groups-fewer g.keys g.table.columns [] (grouped_marked g before),
       as_many g before source marked,
       source.few-rows,
     )

@@ -21,10 +21,10 @@ use Rattle.label_words.specs.WellFormed.{well_formed}
 use Rattle.plan.specs.Masks.{in_mask}
 use Rattle.live_tables.specs.declared.LiveTable.{LiveTable}
 use Rattle.live_tables.specs.declared.Stack.{Stack}
-use Rattle.memory.specs.declared.StepAnswer.{StepAnswer}
-use Rattle.memory.specs.declared.StepAnswer.TheVariants.{Made}
+use Rattle.std.specs.Prelude.{Ok, Err}
+use Rattle.memory.specs.declared.StepError.{StepError}
 use Rattle.memory.specs.promises.Stack.{Ready, stack_in, widths_to, with_table, live_table, marked_in, labels_in, Inside, MarksInside}
-use Rattle.memory.specs.promises.Steps.{step_says, verdict, fits, fits_in, DoneWhere}
+use Rattle.memory.specs.promises.Steps.{error_says, verdict, fits, fits_in, DoneWhere}
 use Rattle.plan.specs.Group.{check_group, grouped}
 use Rattle.plan.specs.Keep.{kept_count}
 use Rattle.plan.specs.Steps.{check, make, too_many}
@@ -39,9 +39,6 @@ use Rattle.cells.proofs.LabelledTables.{label_of}
 use Rattle.cells.proofs.Rows.{bare}
 use Rattle.memory.proofs.Finish.{answered-done, made-done, fine-parts, or_nothing}
 use Rattle.memory.proofs.FormedTables.{formed-table}
-use Rattle.memory.specs.contracts.StepAnswer.{the_type}
-use denote.Enum.Declared.{tag_of}
-use types.Run.{OneOf}
 use Rattle.memory.proofs.LiveTables.{fits-parts, Stands, stands, inside, at-is, marks-place, marks-inside, bare-is, table-within, grid-is, stack_top, top-width}
 
 -- ---- labels that an aggregate may be made of
@@ -141,9 +138,9 @@ module _ (keys : ℕ) (aggregate : Aggregate) (column : ℕ) where
     made-is = rw f.width_is (ap (make step supply) (stack_top m f.here))
 
     -- the labels refuse it, or are none
-    pub refused-group : (answer : StepAnswer) → OneOf (1 ∷ 2 ∷ []) (tag_of the_type answer) → step_says answer ≡ group_says labels table keys column
-        → DoneWhere (group_fits keys aggregate column supply m stack) step supply m stack (record { answer = answer; stack = stack }) m
-    refused-group answer k e = answered-done step supply m stack answer k verdict-is (e ∙ ap (λ (b : Bool). cond b (says (check_group keys column (labels_in labels table))) unfit) (sym fits-is))
+    pub refused-group : (wrong : StepError) → error_says wrong ≡ group_says labels table keys column
+        → DoneWhere (group_fits keys aggregate column supply m stack) step supply m stack (Err wrong) m
+    refused-group wrong e = answered-done step supply m stack wrong verdict-is (e ∙ ap (λ (b : Bool). cond b (says (check_group keys column (labels_in labels table))) unfit) (sym fits-is))
 
     module _ (e : says fine ≡ group_says labels table keys column) where
       pub allowed : Each (Allowed column) (grouped_rows (grouping_of table keys aggregate column width) (cells_in m.work))
@@ -155,7 +152,7 @@ module _ (keys : ℕ) (aggregate : Aggregate) (column : ℕ) where
           allowed-rows column 0 (grouped_rows g (cells_in m.work)) (rw same (formed-table labels table column p.0).formed) (rw same none)
 
       pub made-group : {after : Memory} {count : ℕ} → Replaced (grouping_of table keys aggregate column width) m count after
-          → DoneWhere (group_fits keys aggregate column supply m stack) step supply m stack (record { answer = Made; stack = with_table stack table.slot width count }) after
+          → DoneWhere (group_fits keys aggregate column supply m stack) step supply m stack (Ok (with_table stack table.slot width count)) after
       made-group {after} {count} r =
           let p = fine-parts _ e in
           made-done step supply m stack (fits-is ∙ p.0) table.slot width count (group_rows g m) after f.is-ready room

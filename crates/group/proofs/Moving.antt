@@ -25,23 +25,23 @@ module _ {g : Grouping} {before m : Memory} {count : ℕ} (source : Source g (le
   pub cells-fit : count * g.width ≤ 2048
   cells-fit = fits-slot count g.width (few-made source marked k) source.narrow
 
-  low : g.at ≤ last_slot
+  low : g.table.at ≤ last_slot
   low = omega (arith, source.below)
 
-  pub in-values : Moves last_slot g.at (count * g.width) (length m.work.values)
-  in-values = down-values g.at g.width count made k.put k.wide (sym k.counted) low cells-fit source.values-room source.labels-room
+  pub in-values : Moves last_slot g.table.at (count * g.width) (length m.work.values)
+  in-values = down-values g.table.at g.width count made k.put k.wide (sym k.counted) low cells-fit source.values-room source.labels-room
 
-  pub in-labels : Moves last_slot g.at (count * g.width) (length m.work.labels)
-  in-labels = down-labels g.at g.width count made k.put k.wide (sym k.counted) low cells-fit source.values-room source.labels-room
+  pub in-labels : Moves last_slot g.table.at (count * g.width) (length m.work.labels)
+  in-labels = down-labels g.table.at g.width count made k.put k.wide (sym k.counted) low cells-fit source.values-room source.labels-room
 
   -- what the moves leave
-  pub replaced : {us : List ℤ} {ks ns : List ℕ} {r : Bool} → us ≡ moved last_slot g.at (count * g.width) m.work.values → ks ≡ moved last_slot g.at (count * g.width) m.work.labels
-      → r ≡ can_move last_marks g.marks count (length m.marks) → ns ≡ cond r (moved last_marks g.marks count m.marks) m.marks
+  pub replaced : {us : List ℤ} {ks ns : List ℕ} {r : Bool} → us ≡ moved last_slot g.table.at (count * g.width) m.work.values → ks ≡ moved last_slot g.table.at (count * g.width) m.work.labels
+      → r ≡ can_move last_marks g.table.marks count (length m.marks) → ns ≡ cond r (moved last_marks g.table.marks count m.marks) m.marks
       → Replaced g before count (memory_of us ks ns)
   replaced {us} {ks} {ns} v l told left = record {
     few = few-made source marked k;
     counted = k.counted;
     wide = k.wide;
-    rows = rw (v, l) (moved_down g.at g.width count made k.put k.wide (sym k.counted) low cells-fit source.values-room source.labels-room);
-    marks = marks-down g.marks count made k.marks (sym k.counted) marked.slot-below (few-made source marked k) marked.mark-room told left;
+    rows = rw (v, l) (moved_down g.table.at g.width count made k.put k.wide (sym k.counted) low cells-fit source.values-room source.labels-room);
+    marks = marks-down g.table.marks count made k.marks (sym k.counted) marked.slot-below (few-made source marked k) marked.mark-room told left;
   }

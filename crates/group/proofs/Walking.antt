@@ -5,7 +5,7 @@ use Rattle.cells.proofs.Columns.{Walking, row_room}
 use Rattle.group.specs.promises.Members.{ColumnInside}
 use Rattle.group.specs.declared.Grouping.{Grouping}
 
-pub walk_from : (g : Grouping) (length row : ℕ) → ColumnInside g length → row ≤ g.rows → Walking length g.at g.rows g.columns g.column row (g.at + row * g.columns)
+pub walk_from : (g : Grouping) (length row : ℕ) → ColumnInside g length → row ≤ g.table.rows → Walking length g.table.at g.table.rows g.table.columns g.column row (g.table.at + row * g.table.columns)
 walk_from g length row i h = record { few-rows = i.few-rows; has-column = i.has-column; within = i.within; upto = h; here = omega arith }
 
 -- the walk goes to another row

@@ -7,25 +7,21 @@ ghost use Rattle.chains.specs.promises.Chains.{Onward};
 ghost use Rattle.group.specs.promises.Members as spec;
 
 use crate::Grouping;
-use label::LabelAnswer;
 
 // The labels of the group that a row leads, each discharged over so many sheets, composed in row order.
 pub fn group_label(labels: &[u32], next: &[usize; 256], g: Grouping, row: usize, size: u32) -> u32
     requires column_inside { spec.ColumnInside g (length labels.now) }
-    requires row_lt_rows { (row < g.rows) × Onward g.rows next.now }
+    requires row_lt_rows { (row < g.table.rows) × Onward g.table.rows next.now }
     ensures { spec.GroupLabel g labels.now next.now row size result }
 {
-    let rows = g.rows;
-    let columns = g.columns;
-    let column = g.column;
-    let at = g.at;
-    let aggregate = g.aggregate;
-    let code = operations::aggregate_code(aggregate);
-    let first = at + row * columns;
+    let Grouping { table, column, .. } = g;
+    let code = operations::aggregate_code(g.aggregate);
+    let first = table.at + row * table.columns;
     let mut all = with_label(0, labels[first + column], code, size);
+    // The rows of a chain are no counted index.
     let mut other = next[row];
-    while other < rows {
-        let place = at + other * columns;
+    while other < table.rows {
+        let place = table.at + other * table.columns;
         all = with_label(all, labels[place + column], code, size);
         other = next[other];
     }
@@ -36,16 +32,9 @@ pub fn group_label(labels: &[u32], next: &[usize; 256], g: Grouping, row: usize,
 fn with_label(all: u32, next: u32, code: u32, size: u32) -> u32
     ensures { well_formed all ≡ true → spec.AllowedLabel next → code < 5 → result ≡ composed all (after_a next code size) }
 {
-    let discharged = label::discharge_aggregate(next, code, size);
-    let LabelAnswer::Label(left) = discharged else {
-        return 0;
-    };
-    if left == 0 {
-        return all;
+    match label::discharge_aggregate(next, code, size) {
+        Ok(0) => all,
+        Ok(left) => label::compose(all, left).unwrap_or(0),
+        Err(_) => 0,
     }
-    let composed = label::compose(all, left);
-    let LabelAnswer::Label(both) = composed else {
-        return 0;
-    };
-    both
 }

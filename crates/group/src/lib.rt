@@ -6,16 +6,14 @@ mod made;
 mod member;
 mod partition;
 
+use memory::LiveTable;
 pub use partition::group;
 use plan::Aggregate;
 
-// A GROUP of the table of so many rows and columns from a place of work memory on, whose marks begin at another, and the width of the rows made.
+// A GROUP of a live table, and the width of the rows made.
 #[derive(Clone, Copy)]
 struct Grouping {
-    at: usize,
-    marks: usize,
-    rows: usize,
-    columns: usize,
+    table: LiveTable,
     keys: u32,
     aggregate: Aggregate,
     column: usize,

@@ -10,7 +10,7 @@ ghost use Rattle.group.specs.promises.Members as spec;
 use crate::Grouping;
 use crate::labelling::group_label;
 use crate::member::{group_sheets, group_values};
-use memory::{LAST_MARKS, LAST_SLOT};
+use memory::{LAST_MARKS, LAST_SLOT, LiveTable};
 
 // Puts the rows of all groups in the place of the table, and answers how many there are.
 pub fn replace(values: &mut [i64], labels: &mut [u32], marks: &mut [u64], g: Grouping) -> usize
@@ -20,8 +20,8 @@ pub fn replace(values: &mut [i64], labels: &mut [u32], marks: &mut [u64], g: Gro
         (memory_of values.new labels.new marks.new) }
 {
     let count = write_groups(values, labels, marks, g);
-    moves::move_cells(values, labels, LAST_SLOT, g.at, count * g.width);
-    moves::move_marks(marks, LAST_MARKS, g.marks, count);
+    moves::move_cells(values, labels, LAST_SLOT, g.table.at, count * g.width);
+    moves::move_marks(marks, LAST_MARKS, g.table.marks, count);
     count
 }
 
@@ -32,21 +32,24 @@ fn write_groups(values: &mut [i64], labels: &mut [u32], marks: &mut [u64], g: Gr
     ensures { made.AllMade g (memory_of values.old labels.old marks.old) result
         (memory_of values.new labels.new marks.new) }
 {
-    let rows = g.rows;
-    let chains = chains::find(values, g.at, rows, g.columns, g.keys);
-    let numbers = mark_numbers::find(marks, g.marks, rows);
+    let LiveTable {
+        at,
+        rows,
+        columns,
+        ..
+    } = g.table;
+    let chains = chains::find(values, at, rows, columns, g.keys);
+    let numbers = mark_numbers::find(marks, g.table.marks, rows);
     let mut count = 0;
     let mut to = LAST_SLOT;
-    let mut row = 0;
-    while row < rows {
+    for row in 0..rows {
         if chains.first[row] == row {
             let sheets = group_sheets(&numbers, &chains.next, rows, row);
             write_group(values, labels, &chains.next, g, row, sheets, to);
-            marks[LAST_MARKS + count] = marks[g.marks + row];
+            marks[LAST_MARKS + count] = marks[g.table.marks + row];
             to += g.width;
             count += 1;
         }
-        row += 1;
     }
     count
 }
@@ -63,14 +66,13 @@ fn write_group(
 )
     requires source { made.Source g (length values.old) (length labels.old) }
     requires each { Each (spec.Allowed g.column) (spec.grouped_rows g (cells_in (work values.old labels.old))) }
-    requires row_lt_rows { (row < g.rows) × Onward g.rows next.now × (last_slot ≤ to) × (to + g.width ≤ room) }
+    requires row_lt_rows { (row < g.table.rows) × Onward g.table.rows next.now × (last_slot ≤ to) × (to + g.width ≤ room) }
     ensures { made.GroupWritten g next.now row sheets to (work values.old labels.old)
         (work values.new labels.new) }
 {
     let all = group_values(values, next, g, row);
     let label = group_label(labels, next, g, row, sheets);
-    let aggregate = g.aggregate;
-    let value = accumulator::value_of(all, aggregate);
+    let value = accumulator::value_of(all, g.aggregate);
     write_row(values, labels, g, row, to, value, label);
 }
 
@@ -85,23 +87,19 @@ fn write_row(
     label: u32,
 )
     requires source { made.Source g (length values.old) (length labels.old) }
-    requires row_lt_rows { (row < g.rows) × (last_slot ≤ to) × (to + g.width ≤ room) }
+    requires row_lt_rows { (row < g.table.rows) × (last_slot ≤ to) × (to + g.width ≤ room) }
     ensures { made.RowWritten g row to (record { value = value; label = label })
         (work values.old labels.old) (work values.new labels.new) }
 {
-    let columns = g.columns;
-    let keys = g.keys;
-    let at = g.at;
-    let from = at + row * columns;
+    let Grouping { table, keys, .. } = g;
+    let from = table.at + row * table.columns;
     let mut place = to;
-    let mut column = 0;
-    while column < columns {
+    for column in 0..table.columns {
         if (keys >> column) % 2 == 1 {
             values[place] = values[from + column];
             labels[place] = labels[from + column];
             place += 1;
         }
-        column += 1;
     }
     values[place] = value;
     labels[place] = label;

@@ -10,18 +10,16 @@ use accumulator::Accumulator;
 // The values of the group that a row leads, accumulated.
 pub fn group_values(values: &[i64], next: &[usize; 256], g: Grouping, row: usize) -> Accumulator
     requires column_inside { spec.ColumnInside g (length values.now) }
-    requires row_lt_rows { (row < g.rows) × Onward g.rows next.now }
+    requires row_lt_rows { (row < g.table.rows) × Onward g.table.rows next.now }
     ensures { spec.GroupValues g values.now next.now row result }
 {
-    let rows = g.rows;
-    let columns = g.columns;
-    let column = g.column;
-    let at = g.at;
-    let first = at + row * columns;
+    let Grouping { table, column, .. } = g;
+    let first = table.at + row * table.columns;
     let mut all = accumulator::single(values[first + column]);
+    // The rows of a chain are no counted index.
     let mut other = next[row];
-    while other < rows {
-        let place = at + other * columns;
+    while other < table.rows {
+        let place = table.at + other * table.columns;
         all = accumulator::with_value(all, values[place + column]);
         other = next[other];
     }
@@ -36,6 +34,7 @@ pub fn group_sheets(numbers: &[usize; 256], next: &[usize; 256], rows: usize, ro
 {
     let mut seen = [false; 256];
     let mut sheets = 0;
+    // The rows of a chain are no counted index.
     let mut other = row;
     while other < rows {
         let number = numbers[other];

@@ -15,30 +15,21 @@ use Rattle.plan.specs.declared.Aggregate.{Aggregate}
 
 -- the GROUP of a live table, which makes rows of a width
 abbrev pub grouping_of : LiveTable → ℕ → Aggregate → ℕ → ℕ → Grouping
-grouping_of table keys aggregate column width = record {
-  at = table.at;
-  marks = table.marks;
-  rows = table.rows;
-  columns = table.columns;
-  keys = keys;
-  aggregate = aggregate;
-  column = column;
-  width = width;
-}
+grouping_of table keys aggregate column width = record { table = table; keys = keys; aggregate = aggregate; column = column; width = width }
 
 -- a table that lies within a slice of this length, with the column that is aggregated
 pub record ColumnInside (g : Grouping) (length : ℕ) : Type 0 where
-  pub few-rows : g.rows ≤ 256
-  pub few-columns : g.columns ≤ 8
-  pub has-column : g.column < g.columns
-  pub within : g.at + g.rows * g.columns ≤ length
+  pub few-rows : g.table.rows ≤ 256
+  pub few-columns : g.table.columns ≤ 8
+  pub has-column : g.column < g.table.columns
+  pub within : g.table.at + g.table.rows * g.table.columns ≤ length
 
 -- the table's rows, and one of them
 abbrev pub grouped_rows : Grouping → List Cell → List Row
-grouped_rows g memory = table_rows g.columns g.rows memory g.at
+grouped_rows g memory = table_rows g.table.columns g.table.rows memory g.table.at
 
 abbrev pub row_of : Grouping → List Cell → ℕ → Row
-row_of g memory row = row_from g.columns memory (g.at + row * g.columns)
+row_of g memory row = row_from g.table.columns memory (g.table.at + row * g.table.columns)
 
 -- the elements beside a number
 abbrev pub chosen : {A : Type 0} → ℕ → List ℕ → List A → List A
@@ -48,7 +39,7 @@ chosen number (n ∷ numbers) (x ∷ list) = cond (eqb n number) (x ∷ chosen n
 
 -- the rows from one on
 abbrev pub rows_from : Grouping → List Cell → ℕ → List Row
-rows_from g memory row = bare_rows g.columns (g.rows - row) (drop (g.at + row * g.columns) memory)
+rows_from g memory row = bare_rows g.table.columns (g.table.rows - row) (drop (g.table.at + row * g.table.columns) memory)
 
 -- the later rows beside which a row's number stands
 abbrev pub later : Grouping → List Cell → List ℕ → ℕ → List Row
@@ -74,13 +65,13 @@ column_labels column rows = map (λ cell. cell.label) (map (cell_at column) rows
 -- The group that a row leads, whatever stands in the other slice. Its values, accumulated:
 abbrev pub GroupValues : Grouping → List ℤ → List ℕ → ℕ → Accumulator → Type 0
 GroupValues g values next row all =
-    (leaders labels : List ℕ) → Chain g.rows leaders next → get_or leaders row 0 ≡ row → ColumnInside g (length labels)
+    (leaders labels : List ℕ) → Chain g.table.rows leaders next → get_or leaders row 0 ≡ row → ColumnInside g (length labels)
     → all ≡ with_values (single (cell_at g.column (row_of g (cells_of values labels) row)).value) (column_values g.column (later g (cells_of values labels) leaders row))
 
 -- its labels, each discharged over so many sheets, composed in row order:
 abbrev pub GroupLabel : Grouping → List ℕ → List ℕ → ℕ → ℕ → ℕ → Type 0
 GroupLabel g labels next row size label =
-    (leaders : List ℕ) (values : List ℤ) → Chain g.rows leaders next → get_or leaders row 0 ≡ row → ColumnInside g (length values)
+    (leaders : List ℕ) (values : List ℤ) → Chain g.table.rows leaders next → get_or leaders row 0 ≡ row → ColumnInside g (length values)
     → Each (Allowed g.column) (rows_from g (cells_of values labels) row)
     → label ≡ composed_after (aggregate_code g.aggregate) size 0 (column_labels g.column (members g (cells_of values labels) leaders row))
 

@@ -20,7 +20,7 @@ use Rattle.group.proofs.labelling.group_label.Goals as goal
 use Rattle.group.proofs.labelling.group_label.Goals.{Start}
 
 -- the group's first row is within the labels
-first : (c : Start) → let g = c.args.g in g.at + c.args.row * g.columns + g.columns ≤ length c.args.labels.now
+first : (c : Start) → let g = c.args.g in g.table.at + c.args.row * g.table.columns + g.table.columns ≤ length c.args.labels.now
 first c = inside (walk_from c.args.g (length c.args.labels.now) c.args.row c.requires.column_inside (omega arith)) c.requires.row_lt_rows.0
 
 pub overflow_mul-first : goal.overflow_mul-first
@@ -50,8 +50,8 @@ loop-other-init c =
     let p = c.requires in
     let h = p.row_lt_rows.0 in
     let few : c.aggregate_code-code.result < 5 = rw c.aggregate_code-code.ensures (few-codes a.g.aggregate) in
-    let place = a.g.at + a.row * a.g.columns in
-    let k : a.g.at + (a.row + 1) * a.g.columns ≡ place + a.g.columns = omega arith in
+    let place = a.g.table.at + a.row * a.g.table.columns in
+    let k : a.g.table.at + (a.row + 1) * a.g.table.columns ≡ place + a.g.table.columns = omega arith in
     let walk = walk_from a.g (length a.labels.now) a.row p.column_inside (omega arith) in (
       walk-to _ walk (p.row_lt_rows.1.upto a.row h),
       p.row_lt_rows.1.further a.row h,
@@ -59,12 +59,12 @@ loop-other-init c =
       few,
       λ leaders values chain e q allowed.
           let M = cells_of values a.labels.now in
-          let l = label-read values a.labels.now a.g.columns place a.g.column p.column_inside.has-column (inside-other (length values) walk h q) (inside walk h) in
-          let each = rw (rows_next a.g.columns a.g.rows a.row place M h) at allowed in
-          let start : c.with_label-all.result ≡ composed 0 (after_a (cell_at a.g.column (row_from a.g.columns M place)).label c.aggregate_code-code.result a.size) = rw l (c.with_label-all.ensures zero-well-formed (rw l at each.0) few) in
-          let later = each_chosen (Allowed a.g.column) a.row (drop (a.row + 1) leaders) (bare_rows a.g.columns (a.g.rows - (a.row + 1)) (drop (a.g.at + (a.row + 1) * a.g.columns) M)) (rw k each.1) in (
-            next-led chain a.row a.g.columns a.g.at M a.row h e,
-            rw (← (next-left chain a.row a.g.columns a.g.at M a.row h e)) (label-taken {row = row_from a.g.columns M place} (none-composed c.aggregate_code-code.result a.size a.g.column _ (each.0, later)) start),
+          let l = label-read values a.labels.now a.g.table.columns place a.g.column p.column_inside.has-column (inside-other (length values) walk h q) (inside walk h) in
+          let each = rw (rows_next a.g.table.columns a.g.table.rows a.row place M h) at allowed in
+          let start : c.with_label-all.result ≡ composed 0 (after_a (cell_at a.g.column (row_from a.g.table.columns M place)).label c.aggregate_code-code.result a.size) = rw l (c.with_label-all.ensures zero-well-formed (rw l at each.0) few) in
+          let later = each_chosen (Allowed a.g.column) a.row (drop (a.row + 1) leaders) (bare_rows a.g.table.columns (a.g.table.rows - (a.row + 1)) (drop (a.g.table.at + (a.row + 1) * a.g.table.columns) M)) (rw k each.1) in (
+            next-led chain a.row a.g.table.columns a.g.table.at M a.row h e,
+            rw (← (next-left chain a.row a.g.table.columns a.g.table.at M a.row h e)) (label-taken {row = row_from a.g.table.columns M place} (none-composed c.aggregate_code-code.result a.size a.g.column _ (each.0, later)) start),
           ),
     )
 
@@ -98,7 +98,7 @@ loop-other-preserved c =
     let i = c.loop-other.invariant in
     let h = c.loop-other-test.true in
     let further = i.2.further c.loop-other.other h in
-    let place = a.g.at + c.loop-other.other * a.g.columns in (
+    let place = a.g.table.at + c.loop-other.other * a.g.table.columns in (
       walk-to _ i.0 (i.2.upto c.loop-other.other h),
       omega arith,
       i.2,
@@ -106,13 +106,13 @@ loop-other-preserved c =
       λ leaders values chain e q allowed.
           let M = cells_of values a.labels.now in
           let t = i.4 leaders values chain e q allowed in
-          let r = label-read values a.labels.now a.g.columns place a.g.column i.0.has-column (inside-other (length values) i.0 h q) (inside i.0 h) in
-          let u = rw (member-next chain a.row a.g.columns a.g.at M c.loop-other.other h (t.0 h)) at t.1 in
-          (next-led chain a.row a.g.columns a.g.at M c.loop-other.other h (t.0 h), label-taken u (rw r (c.with_label-all-in-loop-other.ensures u.formed (rw r at u.allowed.0) i.3))),
+          let r = label-read values a.labels.now a.g.table.columns place a.g.column i.0.has-column (inside-other (length values) i.0 h q) (inside i.0 h) in
+          let u = rw (member-next chain a.row a.g.table.columns a.g.table.at M c.loop-other.other h (t.0 h)) at t.1 in
+          (next-led chain a.row a.g.table.columns a.g.table.at M c.loop-other.other h (t.0 h), label-taken u (rw r (c.with_label-all-in-loop-other.ensures u.formed (rw r at u.allowed.0) i.3))),
     )
 
 pub returns : goal.returns
 returns c =
     λ leaders values chain e q allowed.
-    let z : c.args.g.rows - c.loop-other.other ≡ 0 = omega arith in
+    let z : c.args.g.table.rows - c.loop-other.other ≡ 0 = omega arith in
     rw (← c.aggregate_code-code.ensures) (sym (rw z at (c.loop-other.invariant.4 leaders values chain e q.within allowed).1.rest))

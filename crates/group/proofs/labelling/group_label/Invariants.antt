@@ -14,7 +14,7 @@ use Rattle.cells.proofs.Columns.{Walking}
 use Rattle.group.proofs.labelling.group_label.Given as goal
 
 abbrev pub invariant-loop-other : goal.invariant-loop-other
-invariant-loop-other l = Walking (length l.labels) l.at l.rows l.columns l.column l.other (l.at + l.other * l.columns) × (l.row < l.other) × Onward l.rows l.next × (l.code < 5) × ((leaders : List ℕ) (values : List ℤ) → Chain l.rows leaders l.next → get_or leaders l.row 0 ≡ l.row → l.at + l.rows * l.columns ≤ length values → Each (Allowed l.column) (bare_rows l.columns (l.rows - l.row) (drop (l.at + l.row * l.columns) (cells_of values l.labels))) → (l.other < l.rows → get_or leaders l.other 0 ≡ l.row) × Composing l.code l.size l.column (composed_after l.code l.size 0 (column_labels l.column (row_from l.columns (cells_of values l.labels) (l.at + l.row * l.columns) ∷ chosen l.row (drop (l.row + 1) leaders) (bare_rows l.columns (l.rows - (l.row + 1)) (drop (l.at + (l.row + 1) * l.columns) (cells_of values l.labels)))))) l.all (chosen l.row (drop l.other leaders) (bare_rows l.columns (l.rows - l.other) (drop (l.at + l.other * l.columns) (cells_of values l.labels)))))
+invariant-loop-other l = Walking (length l.labels) l.table.at l.table.rows l.table.columns l.column l.other (l.table.at + l.other * l.table.columns) × (l.row < l.other) × Onward l.table.rows l.next × (l.code < 5) × ((leaders : List ℕ) (values : List ℤ) → Chain l.table.rows leaders l.next → get_or leaders l.row 0 ≡ l.row → l.table.at + l.table.rows * l.table.columns ≤ length values → Each (Allowed l.column) (bare_rows l.table.columns (l.table.rows - l.row) (drop (l.table.at + l.row * l.table.columns) (cells_of values l.labels))) → (l.other < l.table.rows → get_or leaders l.other 0 ≡ l.row) × Composing l.code l.size l.column (composed_after l.code l.size 0 (column_labels l.column (row_from l.table.columns (cells_of values l.labels) (l.table.at + l.row * l.table.columns) ∷ chosen l.row (drop (l.row + 1) leaders) (bare_rows l.table.columns (l.table.rows - (l.row + 1)) (drop (l.table.at + (l.row + 1) * l.table.columns) (cells_of values l.labels)))))) l.all (chosen l.row (drop l.other leaders) (bare_rows l.table.columns (l.table.rows - l.other) (drop (l.table.at + l.other * l.table.columns) (cells_of values l.labels)))))
 
 abbrev pub decreases-loop-other : goal.decreases-loop-other
-decreases-loop-other l = l.rows - l.other
+decreases-loop-other l = l.table.rows - l.other

@@ -17,23 +17,23 @@ use Rattle.group.proofs.member.group_values.Goals as goal
 use Rattle.group.proofs.member.group_values.Goals.{Start}
 
 -- the group's first row is within the values
-first : (c : Start) → let g = c.args.g in g.at + c.args.row * g.columns + g.columns ≤ length c.args.values.now
+first : (c : Start) → let g = c.args.g in g.table.at + c.args.row * g.table.columns + g.table.columns ≤ length c.args.values.now
 first c = inside (walk_from c.args.g (length c.args.values.now) c.args.row c.requires.column_inside (omega arith)) c.requires.row_lt_rows.0
 
 pub overflow_mul-first : goal.overflow_mul-first
-overflow_mul-first c = omega (arith, first c)
+overflow_mul-first c = omega (arith, first (goal.at.overflow_mul-first c).Start)
 
 pub overflow_add-first : goal.overflow_add-first
-overflow_add-first c = omega (arith, first c)
+overflow_add-first c = omega (arith, first (goal.at.overflow_add-first c).Start)
 
 pub overflow_add-first-2 : goal.overflow_add-first-2
-overflow_add-first-2 c = omega (arith, first c)
+overflow_add-first-2 c = omega (arith, first (goal.at.overflow_add-first-2 c).Start)
 
 pub offset_bounds-values-first : goal.offset_bounds-values-first
-offset_bounds-values-first c = omega (arith, first c)
+offset_bounds-values-first c = omega (arith, first (goal.at.offset_bounds-values-first c).Start)
 
 pub bounds-values-first : goal.bounds-values-first
-bounds-values-first c = omega (arith, first c)
+bounds-values-first c = omega (arith, first (goal.at.bounds-values-first c).Start)
 
 pub offset_bounds-next-row : goal.offset_bounds-next-row
 offset_bounds-next-row c = omega (arith, c.requires.column_inside.few-rows)
@@ -52,7 +52,7 @@ loop-other-init c =
       p.row_lt_rows.1,
       λ leaders labels chain e q.
           let M = cells_of a.values.now labels in
-          (next-led chain a.row a.g.columns a.g.at M a.row h e, ap (λ (l : List Row). with_values c.single-all.result (column_values a.g.column l)) (next-left chain a.row a.g.columns a.g.at M a.row h e)),
+          (next-led chain a.row a.g.table.columns a.g.table.at M a.row h e, ap (λ (l : List Row). with_values c.single-all.result (column_values a.g.column l)) (next-left chain a.row a.g.table.columns a.g.table.at M a.row h e)),
     )
 
 pub overflow_mul-place : goal.overflow_mul-place
@@ -91,10 +91,10 @@ loop-other-preserved c =
       λ leaders labels chain e q.
           let M = cells_of a.values.now labels in
           let t = i.3 leaders labels chain e q in
-          let v = value_read a.values.now labels a.g.columns (a.g.at + c.loop-other.other * a.g.columns) a.g.column i.0.has-column (inside i.0 h) (inside-other (length labels) i.0 h q) in
-          let more : c.with_value-all.result ≡ with_value c.loop-other.all (cell_at a.g.column (row_from a.g.columns M (a.g.at + c.loop-other.other * a.g.columns))).value
+          let v = value_read a.values.now labels a.g.table.columns (a.g.table.at + c.loop-other.other * a.g.table.columns) a.g.column i.0.has-column (inside i.0 h) (inside-other (length labels) i.0 h q) in
+          let more : c.with_value-all.result ≡ with_value c.loop-other.all (cell_at a.g.column (row_from a.g.table.columns M (a.g.table.at + c.loop-other.other * a.g.table.columns))).value
           = c.with_value-all.ensures ∙ ap (with_value c.loop-other.all) (back_is _ c.with_value-arg-1.given ∙ sym v) in
-          (next-led chain a.row a.g.columns a.g.at M c.loop-other.other h (t.0 h), t.1 ∙ rw (more, member-next chain a.row a.g.columns a.g.at M c.loop-other.other h (t.0 h))),
+          (next-led chain a.row a.g.table.columns a.g.table.at M c.loop-other.other h (t.0 h), t.1 ∙ rw (more, member-next chain a.row a.g.table.columns a.g.table.at M c.loop-other.other h (t.0 h))),
     )
 
 pub returns : goal.returns
@@ -102,10 +102,10 @@ returns c =
     let a = c.args in
     λ leaders labels chain e q.
     let M = cells_of a.values.now labels in
-    let place = a.g.at + a.row * a.g.columns in
-    let z : a.g.rows - c.loop-other.other ≡ 0 = omega arith in
+    let place = a.g.table.at + a.row * a.g.table.columns in
+    let z : a.g.table.rows - c.loop-other.other ≡ 0 = omega arith in
     let walk = walk_from a.g (length labels) a.row q (omega arith) in
-    let v = value_read a.values.now labels a.g.columns place a.g.column q.has-column (first (goal.at.returns c).Start) (inside walk c.requires.row_lt_rows.0) in
-    let start : c.single-all.result ≡ single (cell_at a.g.column (row_from a.g.columns M place)).value
+    let v = value_read a.values.now labels a.g.table.columns place a.g.column q.has-column (first (goal.at.returns c).Start) (inside walk c.requires.row_lt_rows.0) in
+    let start : c.single-all.result ≡ single (cell_at a.g.column (row_from a.g.table.columns M place)).value
     = c.single-all.ensures ∙ ap single (back_is _ c.single-arg-1.given ∙ sym v) in
     rw (← start) (sym (rw z at (c.loop-other.invariant.3 leaders labels chain e q.within).1))
