@@ -1,29 +1,33 @@
 -- The release of the table of so many rows and columns at the start of work memory.
-use Rattle.std.specs.Prelude.{ℕ, ◌*◌, ◌≡◌, cond, not, ◌&&◌, List, leb, ℤ, length}
+use Rattle.std.specs.Prelude.{ℕ, ◌*◌, ◌≡◌, cond, not, ◌&&◌, List, leb, ℤ, length, Result, Ok, Err}
 use Rattle.cells.specs.promises.Search.{Reply, says, unfit, not_clear_at}
 use Rattle.cells.specs.promises.Work.{Work}
 use Rattle.plan.specs.Verdict.{fine, refused, refuse_if}
-use Rattle.release.specs.declared.ReleaseAnswer.{ReleaseAnswer}
-use Rattle.release.specs.declared.ReleaseAnswer.TheVariants as answer
+use Rattle.release.specs.declared.ReleaseRefusal.{ReleaseRefusal}
+use Rattle.release.specs.declared.ReleaseRefusal.TheVariants as refusal
+use Rattle.csv_writer.specs.declared.write.WritingError.{WritingError}
+use Rattle.csv_writer.specs.declared.write.WritingError.TheVariants.{TooShort, NoTable}
 use Rattle.csv_writer.specs.promises.Writing.{is_table, text_fits, text_from, text_written}
 use Rattle.table_values.specs.promises.Output.{copied}
 use Rattle.table_values.specs.promises.Over.{first_over_at}
 
 -- what each answer says
-abbrev pub release_says : ReleaseAnswer → Reply
-release_says (answer.Released bytes) = says fine
-release_says (answer.StageLeft row column) = says (refused 35 row column)
-release_says (answer.Over row column) = says (refused 36 row column)
-release_says answer.NoRoom = says (refused 51 0 0)
-release_says answer.DoesNotFit = unfit
+abbrev pub release_says : Result ℕ ReleaseRefusal → Reply
+release_says (Ok bytes) = says fine
+release_says (Err (refusal.StageLeft at)) = says (refused 35 at.row at.column)
+release_says (Err (refusal.Over at)) = says (refused 36 at.row at.column)
+release_says (Err refusal.NoRoom) = says (refused 51 0 0)
+release_says (Err refusal.DoesNotFit) = unfit
 
 -- the bytes of the text that it tells
-abbrev pub bytes_told : ReleaseAnswer → ℕ
-bytes_told (answer.Released bytes) = bytes
-bytes_told (answer.StageLeft row column) = 0
-bytes_told (answer.Over row column) = 0
-bytes_told answer.NoRoom = 0
-bytes_told answer.DoesNotFit = 0
+abbrev pub bytes_told : Result ℕ ReleaseRefusal → ℕ
+bytes_told (Ok bytes) = bytes
+bytes_told (Err wrong) = 0
+
+-- why a table is not released whose text cannot be written
+abbrev pub refusal_of : WritingError → ReleaseRefusal
+refusal_of TooShort = refusal.NoRoom
+refusal_of NoTable = refusal.DoesNotFit
 
 -- the second reply, where the first finds nothing
 abbrev pub after_fine : Reply → Reply → Reply
@@ -63,7 +67,7 @@ export_after unfit values text rows columns = text
 
 -- What a release with a reply means, of an output and a slice for the text that held `output` and `text` before, and hold `output₁` and `text₁`
 -- afterwards.
-pub record Releases (reply : Reply) (values output : List ℤ) (text : List ℕ) (rows columns : ℕ) (answer : ReleaseAnswer) (output₁ : List ℤ) (text₁ : List ℕ) : Type 0 where
+pub record Releases (reply : Reply) (values output : List ℤ) (text : List ℕ) (rows columns : ℕ) (answer : Result ℕ ReleaseRefusal) (output₁ : List ℤ) (text₁ : List ℕ) : Type 0 where
   pub says_so : release_says answer ≡ reply
   pub bytes-are : bytes_told answer ≡ bytes_after reply values rows columns
   pub output-is : output₁ ≡ output_after reply values output rows columns
