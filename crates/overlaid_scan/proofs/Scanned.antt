@@ -21,9 +21,9 @@ use Rattle.input.proofs.Laws.{both}
 use Rattle.layout.specs.Layout.{part_count, part_of}
 use Rattle.live_tables.specs.declared.LiveTable.{LiveTable}
 use Rattle.live_tables.specs.declared.Stack.{Stack}
-use Rattle.memory.specs.declared.Stepped.{Stepped}
+use Rattle.memory.specs.declared.StepError.{StepError}
 use Rattle.memory.specs.promises.Stack.{Ready, slot, mark_slot, mark_part, live_at, live_table, table_in, tables_to, stack_in, with_table}
-use Rattle.memory.specs.promises.Steps.{TableMade}
+use Rattle.memory.specs.promises.Steps.{TableMade, stack_after}
 use Rattle.memory.proofs.Stacks.{Lengths, Below, is-ready, marks-count, tables-same}
 use Rattle.overlay_check.specs.OverlayCheck.{overlay_count, check_part, check_part_labels, each_part, check_overlay}
 use Rattle.overlay_part.specs.OverlayPart.{overlaid}
@@ -42,6 +42,7 @@ use Rattle.plan.specs.Table.{Table, no_table}
 use Rattle.plan.specs.declared.Step.{Step}
 use Rattle.plan.specs.declared.Step.TheVariants.{Scan, Union, Join, Filter, Keep, Apply, Group, Noise}
 use Rattle.plan.proofs.Pairs.{same_length, both-get}
+use Rattle.std.specs.Prelude.{Result}
 use Rattle.strictness.specs.Strictness.{StricterTables}
 use Rattle.overlaid_scan.proofs.Composed.{Changed, one-composed, one-floored}
 
@@ -216,7 +217,7 @@ module _ (container : List ℕ) (table : ℕ) (there : table < part_count contai
 -- ---- the step
 
 -- a step that is no SCAN makes the same of any tables
-same-made : (step : Step) (supply other : Supply) (before after : Memory) (stack : Stack) (done : Stepped)
+same-made : (step : Step) (supply other : Supply) (before after : Memory) (stack : Stack) (done : Result Stack StepError)
     → make step supply (stack_in before stack) ≡ make step other (stack_in before stack)
     → TableMade step supply before stack done after → TableMade step other before stack done after
 same-made step supply other before after stack done e t = record {
@@ -284,57 +285,60 @@ module _ (year : ℕ) (container : List ℕ) (overlays : List (List ℕ)) (ok : 
     }
 
   -- SCAN has pushed the table, into the slot below the stack's depth
-  module _ (draws : List ℤ) (before after : Memory) (stack : Stack) (done : Stepped) (marks : mark_room ≤ length after.marks)
+  module _ (draws : List ℤ) (before after : Memory) (stack : Stack) (done : Result Stack StepError) (marks : mark_room ≤ length after.marks)
       (t : TableMade (Scan table) (supplied (tables_of container) draws) before stack done after) where
+    abbrev pushed : Stack
+    pushed = stack_after stack done
+
     abbrev Overlaid : LiveTable → Type 0
     Overlaid live =
         let m = memory_of after.work.values (after_reading year overlays table live after.work.labels) after.marks in
         TableMade (Scan table) (supplied (all_with_marks 0 under) draws) before stack done m × AllKept after m
 
-    fit : Ready (length after.work.values) (length after.work.labels) done.stack
-    fit = is-ready _ _ done.stack t.still
+    fit : Ready (length after.work.values) (length after.work.labels) pushed
+    fit = is-ready _ _ pushed t.still
 
-    module _ (index : ℕ) (d : done.stack.depth ≡ suc index) where
+    module _ (index : ℕ) (d : pushed.depth ≡ suc index) where
       low : index < 3
       low = omega (arith, d, fit.depth)
 
-      live-is : live_table done.stack 0 ≡ live_at done.stack index
+      live-is : live_table pushed 0 ≡ live_at pushed index
       unfolding live_table
       live-is = let n : suc index - 1 - 0 ≡ index = omega arith in rw (d, le-leb (suc index) 3 low, lt-ltb 0 (suc index) (omega arith), n)
 
       abbrev columns : ℕ
-      columns = get_or done.stack.columns index 0
+      columns = get_or pushed.columns index 0
 
       abbrev rows : ℕ
-      rows = get_or done.stack.rows index 0
+      rows = get_or pushed.rows index 0
 
-      stack-tables : table_in after index columns rows ∷ tables_to after done.stack index ≡ get_or (tables_of container) table no_table ∷ stack_in before stack
+      stack-tables : table_in after index columns rows ∷ tables_to after pushed index ≡ get_or (tables_of container) table no_table ∷ stack_in before stack
       unfolding make scanned
-      stack-tables = sym (ap (tables_to after done.stack) d) ∙ t.tables-are
+      stack-tables = sym (ap (tables_to after pushed) d) ∙ t.tables-are
 
-      overlaid-so : Overlaid (live_at done.stack index)
+      overlaid-so : Overlaid (live_at pushed index)
       unfolding make scanned
       overlaid-so =
           let few = fit.rows index low in
           let now = read container table there index columns rows low few (fit.columns index low) year overlays (overlays-accepted container overlays ok) after marks input
           (stands after index columns rows low few marks (ap (λ (l : List Table). get_or l 0 no_table) stack-tables ∙ plain) fit.values-room fit.labels-room) in
-          let m = memory_of after.work.values (after_reading year overlays table (live_at done.stack index) after.work.labels) after.marks in
+          let m = memory_of after.work.values (after_reading year overlays table (live_at pushed index) after.work.labels) after.marks in
           let long : Lengths after m
           = record { cells-room = cells-length after.work room fit.values-room fit.labels-room; cells-long = now.1.cells-long; marks-room = marks; marks-long = refl } in
-          let lower = tables-same after m long done.stack done.stack fit index (omega (arith, low)) (λ i _. refl) (λ i _. refl) now.1.below in (
+          let lower = tables-same after m long pushed pushed fit index (omega (arith, low)) (λ i _. refl) (λ i _. refl) now.1.below in (
             record {
               stack_is = t.stack_is ∙ ap₂ (with_table stack (stack.depth - 0)) same_shape.columns (same_length same_shape.rows);
-              tables-are = ap (tables_to m done.stack) d ∙ ap₂ ◌∷◌ (now.0.is ∙ sym strict) (lower ∙ ap (drop 1) stack-tables);
+              tables-are = ap (tables_to m pushed) d ∙ ap₂ ◌∷◌ (now.0.is ∙ sym strict) (lower ∙ ap (drop 1) stack-tables);
               still = rw now.1.kept.as-many-labels t.still;
             },
             record { work = now.1.kept; marks = marks-none after.marks },
           )
 
-    scan-overlaid : Overlaid (live_table done.stack 0)
-    scan-overlaid = go done.stack.depth refl
+    scan-overlaid : Overlaid (live_table pushed 0)
+    scan-overlaid = go pushed.depth refl
       where
-        go : (depth : ℕ) → done.stack.depth ≡ depth → Overlaid (live_table done.stack 0)
-        go zero d = absurd (omega (arith, ap length (sym (ap (tables_to after done.stack) d) ∙ t.tables-are)))
+        go : (depth : ℕ) → pushed.depth ≡ depth → Overlaid (live_table pushed 0)
+        go zero d = absurd (omega (arith, ap length (sym (ap (tables_to after pushed) d) ∙ t.tables-are)))
         go (suc index) d = subst Overlaid (sym (live-is index d)) (overlaid-so index d)
 
 pub made-overlaid : MadeOverlaid
