@@ -1,21 +1,14 @@
 -- What a test of a record says, and what stands past the end of a plan. Assumes nothing.
 use Prim.Native.Nat.{ℕ, ◌+◌, ◌*◌, ◌≤◌}
 use mathlib.Core.Path.{◌≡◌, sym, ap}
-use mathlib.Core.Bool.{true, ◌&&◌, and-eq-true_iff}
 use mathlib.Core.List.{List}
 use native.Mathlib.Omega.{arith}
-use lib.Dec.{eqb, leb}
 use lib.ListN.{length, get_or-eq_default}
-use borrow.Author.Tests.{leb-true, eq-eqb}
+use borrow.Author.Tests.{eq-eqb}
 use Rattle.std.specs.Prelude.{None}
-use Rattle.records.specs.Record.{fields_at, amount_fits, by_kind, step_of}
+use Rattle.records.specs.Record.{fields_at, by_kind, step_of}
 use Rattle.records.specs.declared.Fields.{Fields}
 use Rattle.little_endian.proofs.Numbers.{past_end}
-
-pub amount-most : (most : ℕ) (f : Fields) → amount_fits most f ≡ true → f.constant ≤ most
-unfolding amount_fits
-amount-most most f e =
-    leb-true f.constant most ((and-eq-true_iff (eqb f.c 0 && eqb f.d 0 && leb 1 f.constant) (leb f.constant most)).0 e).1
 
 -- the step of a record whose kind is known
 pub kind-is : (f : Fields) (k : ℕ) → f.spare ≡ 0 → f.kind ≡ k → step_of f ≡ by_kind k f

@@ -1,5 +1,5 @@
 -- A step's record as it is copied out of a plan.
-use Rattle.std.specs.Prelude.{ℕ, ◌<◌, ◌≡◌, List}
+use Rattle.std.specs.Prelude.{ℕ, ◌<◌, ◌≡◌, Bool, cond, List, Option, Some, None}
 use Rattle.records.specs.Record.{fields_at}
 use Rattle.records.specs.declared.Fields.{Fields}
 
@@ -13,3 +13,7 @@ pub record Bytes (f : Fields) : Type 0 where
 pub record Copied (part : List ℕ) (step : ℕ) (f : Fields) : Type 0 where
   pub same : f ≡ fields_at part step
   pub bytes : Bytes f
+
+-- what a record's fields give, where they are as they should be
+abbrev pub where_so : {A : Type 0} → Bool → A → Option A
+where_so fits given = cond fits (Some given) None
