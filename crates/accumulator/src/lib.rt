@@ -11,7 +11,7 @@ use value::choice::chosen;
 use value::range::{OVER, in_range, settled};
 
 // The values of a group so far: how many there are, at most 256, whether all are in range, their running sum, the smallest and the largest.
-#[derive(Clone, Copy)]
+#[derive(Clone, Copy, Debug, PartialEq, Eq)]
 pub struct Accumulator {
     pub rows: u32,
     pub exact: bool,
@@ -20,29 +20,44 @@ pub struct Accumulator {
     pub most: i64,
 }
 
-// Of one value.
-pub fn single(v: i64) -> Accumulator
-    ensures { result ≡ spec.single v }
-{
-    Accumulator {
-        rows: 1,
-        exact: in_range(v),
-        total: accumulated(0, v),
-        least: v,
-        most: v,
+impl Accumulator {
+    // Of one value.
+    pub fn single(v: i64) -> Self
+        ensures { result ≡ spec.single v }
+    {
+        Accumulator {
+            rows: 1,
+            exact: in_range(v),
+            total: accumulated(0, v),
+            least: v,
+            most: v,
+        }
     }
-}
 
-// With one value more.
-pub fn with_value(a: Accumulator, v: i64) -> Accumulator
-    ensures { result ≡ spec.with_value a v }
-{
-    Accumulator {
-        rows: one_more(a.rows),
-        exact: a.exact & in_range(v),
-        total: accumulated(a.total, v),
-        least: smaller(a.least, v),
-        most: larger(a.most, v),
+    // With one value more.
+    pub fn with_value(self, v: i64) -> Self
+        ensures { result ≡ spec.with_value self v }
+    {
+        Accumulator {
+            rows: one_more(self.rows),
+            exact: self.exact & in_range(v),
+            total: accumulated(self.total, v),
+            least: smaller(self.least, v),
+            most: larger(self.most, v),
+        }
+    }
+
+    // The aggregate of the values.
+    pub fn value_of(self, aggregate: Aggregate) -> i64
+        ensures { result ≡ spec.aggregate_of aggregate self }
+    {
+        match aggregate {
+            Aggregate::Count => self.rows as i64,
+            Aggregate::Sum => settled(chosen(self.exact, self.total, OVER)),
+            Aggregate::Min => self.least,
+            Aggregate::Max => self.most,
+            Aggregate::Avg => { chosen(self.exact, average(self.total, self.rows), OVER) }
+        }
     }
 }
 
@@ -50,18 +65,5 @@ pub fn with_value(a: Accumulator, v: i64) -> Accumulator
 fn one_more(rows: u32) -> u32
     ensures { result ≡ spec.one_more rows }
 {
-    if rows < 256 { rows + 1 } else { 256 }
-}
-
-// The aggregate of the values.
-pub fn value_of(a: Accumulator, aggregate: Aggregate) -> i64
-    ensures { result ≡ spec.aggregate_of aggregate a }
-{
-    match aggregate {
-        Aggregate::Count => a.rows as i64,
-        Aggregate::Sum => settled(chosen(a.exact, a.total, OVER)),
-        Aggregate::Min => a.least,
-        Aggregate::Max => a.most,
-        Aggregate::Avg => chosen(a.exact, average(a.total, a.rows), OVER),
-    }
+    rows.min(255) + 1
 }
