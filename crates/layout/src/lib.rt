@@ -22,6 +22,7 @@ pub fn rule_year(container: &[u8]) -> u8
 }
 
 // The number of four bytes in the pair of a part, `from` bytes after its begin. A pair past the end has zeros.
+#[tactic(auto, using(little_endian::proofs::Numbers::past_end))]
 fn in_pair(container: &[u8], index: usize, from: usize) -> u32
     requires { from ≤ 4 }
     ensures { result ≡ number_at container.now (pair_at index + from) 4 }
@@ -51,11 +52,7 @@ pub fn part_length(container: &[u8], index: usize) -> u32
 fn has_pair(len: usize, index: usize) -> bool
     ensures { result ≡ leb (pair_at index + 8) len }
 {
-    if 10 <= len {
-        index <= (len - 10) / 8
-    } else {
-        false
-    }
+    10 <= len && index <= (len - 10) / 8
 }
 
 // The bytes of a part, as far as the container has them; none where it does not hold the part's pair.
