@@ -19,19 +19,10 @@ pub fn move_cells(
     ensures values_after { values.new ≡ cond result (spec.moved from to count values.old) values.old }
     ensures labels_after { labels.new ≡ cond result (spec.moved from to count labels.old) labels.old }
 {
-    if !can_move(from, to, count, values.len()) {
+    if !can_move(from, to, count, labels.len()) || !move_items(values, from, to, count) {
         return false;
     }
-    if !can_move(from, to, count, labels.len()) {
-        return false;
-    }
-    let mut i = 0;
-    while i < count {
-        values[to + i] = values[from + i];
-        labels[to + i] = labels[from + i];
-        i += 1;
-    }
-    true
+    move_items(labels, from, to, count)
 }
 
 // The same of marks.
@@ -39,13 +30,19 @@ pub fn move_marks(marks: &mut [u64], from: usize, to: usize, count: usize) -> bo
     ensures value { result ≡ spec.can_move from to count (length marks.old) }
     ensures marks_after { marks.new ≡ cond result (spec.moved from to count marks.old) marks.old }
 {
-    if !can_move(from, to, count, marks.len()) {
+    move_items(marks, from, to, count)
+}
+
+// The same of the elements of any slice.
+fn move_items<T: Copy>(items: &mut [T], from: usize, to: usize, count: usize) -> bool
+    ensures value { result ≡ spec.can_move from to count (length items.old) }
+    ensures items_after { items.new ≡ cond result (spec.moved from to count items.old) items.old }
+{
+    if !can_move(from, to, count, items.len()) {
         return false;
     }
-    let mut i = 0;
-    while i < count {
-        marks[to + i] = marks[from + i];
-        i += 1;
+    for i in 0..count {
+        items[to + i] = items[from + i];
     }
     true
 }
@@ -55,10 +52,8 @@ fn can_move(from: usize, to: usize, count: usize, length: usize) -> bool
     ensures { result ≡ spec.can_move from to count length }
 {
     if from < to {
-        if to - from < count {
-            return false;
-        }
-        return within(to, count, length);
+        count <= to - from && within(to, count, length)
+    } else {
+        within(from, count, length)
     }
-    within(from, count, length)
 }
