@@ -4,9 +4,10 @@ use mathlib.Core.Path.{◌≡◌, ap}
 use mathlib.Core.Bool.{Bool, true, false}
 use mathlib.Core.List.{List, [], ◌∷◌, ◌++◌}
 use native.Mathlib.Nat.{zero-mul}
+use native.Mathlib.Numerals.{add-one}
 use native.Mathlib.Omega.{arith}
 use lib.ListN.{length, get_or, take, drop}
-use lib.Seq.{take-add}
+use lib.Seq.{take-suc, take-add}
 use Rattle.label_words.specs.Stages.{one, stage_count}
 use Rattle.label_words.specs.Word.{has_h, has_t, has_a, has_n}
 use Rattle.cells.specs.promises.Cells.{grid_of}
@@ -30,6 +31,11 @@ pub one-counted : (labels : List ℕ) (at i : ℕ) → at + i < length labels
     → stages_in (take (i + 1) (drop at labels)) ≡ stages_in (take i (drop at labels)) + stage_count (get_or labels (at + i) 0)
 one-counted labels at i h =
     rw (part-more labels at i 0 h, stages-append (take i (drop at labels)) (get_or labels (at + i) 0 ∷ [])) (omega arith)
+
+-- the same of a list of its own
+pub one_more : (labels : List ℕ) (i : ℕ) → i < length labels → stages_in (take (i + 1) labels) ≡ stages_in (take i labels) + stage_count (get_or labels i 0)
+one_more labels i h =
+    rw (add-one, take-suc labels i 0, stages-append (take i labels) (get_or labels i 0 ∷ [])) (omega arith)
 
 -- a label has at most four stages
 pub at-most-four : (word : ℕ) → stage_count word ≤ 4

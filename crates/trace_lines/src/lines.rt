@@ -19,9 +19,6 @@ pub fn write_line(
         return false;
     }
     let at = 4 * step;
-    trace[at] = kind;
-    trace[at + 1] = rows;
-    trace[at + 2] = columns;
-    trace[at + 3] = stages;
+    trace[at..at + 4].copy_from_slice(&[kind, rows, columns, stages]);
     true
 }
