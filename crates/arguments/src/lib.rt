@@ -1,49 +1,80 @@
 // What a program reads: its input, and the files that its arguments name.
 #![tactic(auto)]
 
-ghost use Rattle.std.specs.Prelude.{◌≡◌, ◌≤◌, length, IfOk, OnErr};
+ghost use Rattle.std.specs.Prelude.{◌≡◌, ◌≤◌, length, take, vec_len, IfOk, IfSome, OnErr};
 
+use std::alloc::Global;
+use std::env::Env;
 use std::fs::Files;
 use std::io::Read;
-use std::{fs, io};
+use std::{env, fs, io};
 
-// Whether a file could be opened, and how many bytes were read.
-#[derive(Clone, Copy)]
-pub struct File {
-    pub opened: bool,
-    pub length: usize,
+// The most bytes that are read of a container: one more than its limit, so that a longer one shows.
+pub const MOST: usize = 65537;
+
+// Runs a trial on the bytes of each file that the arguments name, and prints the file's name first. A file that can't be opened is told on standard
+// error, and passed over.
+pub fn for_each_file<R, F>(rt: &R, mut trial: F) -> io::Result<()>
+where
+    R: Files + Print + Eprint + Env + AllocGlobal,
+    F: FnMut(&[u8]) -> io::Result<()>,
+    requires { F.IsAlwaysCallable trial }
+{
+    let names: Vec<String> = env::args(rt)?.skip(1).collect(rt.alloc())?;
+    for name in &names {
+        if let Some(bytes) = file_bytes(rt, name, true, MOST)? {
+            trial(&bytes)?;
+        }
+    }
+    Ok(())
 }
 
-// Reads the file that an argument names into the bytes, and prints the name first where `named`. Which bytes a file has, no contract can say.
+// The bytes of the file of a name, at most so many, or none where it can't be opened. Prints the name first where `named`.
+pub fn file_bytes<R>(rt: &R, name: &str, named: bool, limit: usize) -> io::Result<Option<Vec<u8>>>
+where
+    R: Files + Print + Eprint + AllocGlobal,
+    ensures { IfOk result (λ found. IfSome found (λ bytes. vec_len bytes ≤ limit)) }
+{
+    let mut bytes = vec![in rt.alloc(); 0u8; limit]?;
+    let Some(length) = read_argument(rt, name, named, &mut bytes)? else {
+        return Ok(None);
+    };
+    bytes.truncate(length);
+    Ok(Some(bytes))
+}
+
+// The first bytes that a reader gives, at most so many.
+pub fn reader_bytes<R: Read>(alloc: Global, reader: &mut R, limit: usize) -> io::Result<Vec<u8>>
+    ensures { IfOk result (λ bytes. IfSome (R.remaining reader.old) (λ all. bytes.items ≡ take limit all)) }
+{
+    let mut bytes = Vec::new(alloc);
+    reader.take(limit as u64).read_to_end(&mut bytes)?;
+    Ok(bytes)
+}
+
+// Reads the file of a name into the bytes, and answers how many there are, or none where it can't be opened. Prints the name first where `named`. Which
+// bytes a file has, no contract can say.
 pub fn read_argument<R: Files + Print + Eprint>(
     rt: &R,
-    names: &[String],
-    index: usize,
+    name: &str,
     named: bool,
     bytes: &mut [u8],
-) -> io::Result<File>
-    ensures ok { IfOk result (λ file. file.length ≤ length bytes.new) }
+) -> io::Result<Option<usize>>
+    ensures ok { IfOk result (λ found. IfSome found (λ read. read ≤ length bytes.new)) }
     ensures err { OnErr result (length bytes.new ≡ length bytes.old) }
 {
-    let name = names.get(index).map_or("", |name| name.as_str());
     let mut file = match fs::open(rt, name) {
         Ok(file) => file,
         Err(error) => {
             eprintln!(rt; "{name}: {error}")?;
-            return Ok(File {
-                opened: false,
-                length: 0,
-            });
+            return Ok(None);
         }
     };
     if named {
         print!(rt; "{name}")?;
     }
     let read = read_full(&mut file, bytes)?;
-    Ok(File {
-        opened: true,
-        length: read,
-    })
+    Ok(Some(read))
 }
 
 // Reads until the bytes are full or the input ends, and answers how many it read.

@@ -2,13 +2,11 @@
 // nothing there, and the X line to standard error. It lends no draws.
 #![tactic(auto)]
 
+use arguments::{MOST, reader_bytes};
 use std::io;
 
-// One byte more than the limit is read, so that a longer container shows.
 fn main(rt: HostRuntime) -> io::Result<()> {
-    let mut bytes = [0u8; 65537];
-    let length = arguments::read_full(&mut rt.stdin(), &mut bytes)?;
-    let draws = [0i64; 0];
-    report::export(&rt, &bytes[..length], &draws)?;
+    let container = reader_bytes(rt.alloc(), &mut rt.stdin(), MOST)?;
+    report::export(&rt, &container, &[])?;
     Ok(())
 }

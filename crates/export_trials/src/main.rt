@@ -1,34 +1,18 @@
 // Runs each container that the arguments name with several lengths of the slice for the text, and prints what each call answers, and the text.
 #![tactic(auto)]
 
-use std::fs::Files;
-use std::{env, io};
+use std::io;
 
 // More than the longest text.
 const LONG: usize = 40000;
 
 fn main(rt: HostRuntime) -> io::Result<()> {
-    let names: Vec<String> = env::args(&rt)?.collect(rt.alloc())?;
-    for index in 1..names.len() {
-        trial(&rt, &names, index)?;
-    }
-    Ok(())
-}
-
-// One byte more than the limit is read, so that a longer container shows.
-fn trial<R: Files + Print + Eprint>(rt: &R, names: &[String], index: usize) -> io::Result<()> {
-    let mut bytes = [0u8; 65537];
-    let file = arguments::read_argument(rt, names, index, true, &mut bytes)?;
-    let length = file.length;
-    if !file.opened {
-        return Ok(());
-    }
-    println!(rt)?;
-    rooms(rt, &bytes[..length])
+    arguments::for_each_file(&rt, |container| trial(&rt, container))
 }
 
 // Lends no byte, one too few, as many as the text has, and more; and prints the text.
-fn rooms(rt: &impl Print, container: &[u8]) -> io::Result<()> {
+fn trial(rt: &impl Print, container: &[u8]) -> io::Result<()> {
+    println!(rt)?;
     let mut text = [0u8; LONG];
     let needed = text_bytes(run(container, &mut text));
     lend(rt, container, 0)?;
@@ -42,8 +26,8 @@ fn rooms(rt: &impl Print, container: &[u8]) -> io::Result<()> {
 
 // So many bytes of a text.
 fn beginning(rt: &impl Print, bytes: &[u8], length: usize) -> io::Result<()> {
-    if length <= bytes.len() {
-        rt.write_all(&bytes[..length])?;
+    if let Some(text) = bytes.get(..length) {
+        rt.write_all(text)?;
     }
     Ok(())
 }
@@ -60,14 +44,11 @@ fn text_bytes(answer: [u64; 4]) -> usize {
 // The line of a call with so many bytes for the text: how many, and the four numbers that it answers.
 fn lend(rt: &impl Print, container: &[u8], room: usize) -> io::Result<()> {
     let mut text = [0u8; LONG];
-    if LONG < room {
-        return Ok(());
+    if let Some(text) = text.get_mut(..room) {
+        let [number, first, row, column] = run(container, text);
+        println!(rt; "T {room} {number} {first} {row} {column}")?;
     }
-    let answer = run(container, &mut text[..room]);
-    println!(rt;
-        "T {room} {} {} {} {}",
-        answer[0], answer[1], answer[2], answer[3]
-    )
+    Ok(())
 }
 
 fn run(container: &[u8], text: &mut [u8]) -> [u64; 4] {
@@ -77,15 +58,13 @@ fn run(container: &[u8], text: &mut [u8]) -> [u64; 4] {
     let mut output = [0i64; 2048];
     let mut trace = [0u32; 256];
     let mut answer = [0u64; 4];
-    let draws = [0i64; 0];
-    let none = [0u8; 0];
     cilunovay::cilunovay_run(
         container,
-        &draws,
-        &none,
-        &none,
-        &none,
-        &none,
+        &[],
+        &[],
+        &[],
+        &[],
+        &[],
         &mut values,
         &mut labels,
         &mut marks,

@@ -2,13 +2,11 @@
 // no draws.
 #![tactic(auto)]
 
+use arguments::{MOST, reader_bytes};
 use std::io;
 
-// One byte more than the limit is read, so that a longer container shows.
 fn main(rt: HostRuntime) -> io::Result<()> {
-    let mut bytes = [0u8; 65537];
-    let length = arguments::read_full(&mut rt.stdin(), &mut bytes)?;
-    let draws = [0i64; 0];
-    report::report(&rt, &bytes[..length], &draws)?;
+    let container = reader_bytes(rt.alloc(), &mut rt.stdin(), MOST)?;
+    report::report(&rt, &container, &[])?;
     Ok(())
 }

@@ -1,30 +1,30 @@
 // A file of draws: decimal numbers, one a line, with a minus sign where one is below zero.
+use std::alloc::{AllocError, Global};
 use std::num::{wrapping_add_u64, wrapping_sub_u64};
 use value::pattern::signed;
 
-// Reads the numbers of a text's lines, and answers how many there are; past the last for which there is room, none.
-pub fn read(text: &[u8], numbers: &mut [i64]) -> usize {
-    let mut count = 0;
+// More draws than a trial has.
+const MOST: usize = 2048;
+
+// The numbers of a text's lines, at most so many; what stands behind the last end of a line is none.
+pub fn read(alloc: Global, text: &[u8]) -> Result<Vec<i64>, AllocError> {
+    let mut numbers = Vec::new(alloc);
     let mut bits = 0;
     let mut negative = false;
-    let mut i = 0;
-    while i < text.len() {
-        let byte = text[i];
+    for &byte in text {
         if byte == b'\n' {
-            if numbers.len() <= count {
-                return count;
+            if numbers.len() == MOST {
+                break;
             }
-            numbers[count] = number(bits, negative);
-            count += 1;
+            numbers.push(number(bits, negative))?;
             bits = 0;
             negative = false;
         } else {
-            negative = negative | (byte == b'-');
+            negative |= byte == b'-';
             bits = with_digit(bits, byte);
         }
-        i += 1;
     }
-    count
+    Ok(numbers)
 }
 
 // A number of 64 bits with one digit more; another byte adds nothing.

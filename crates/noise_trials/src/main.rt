@@ -4,50 +4,32 @@
 
 mod draws;
 
+use arguments::{MOST, file_bytes};
 use std::fs::Files;
 use std::{env, io};
 
-// More draws than a trial has.
-const MOST: usize = 2048;
+// The most bytes that are read of the draws' text.
+const LONGEST: usize = 65536;
 
 fn main(rt: HostRuntime) -> io::Result<()> {
-    let names: Vec<String> = env::args(&rt)?.collect(rt.alloc())?;
-    for index in 1..names.len() {
-        if index % 2 == 1 {
-            trial(&rt, &names, index)?;
-        }
+    let names: Vec<String> = env::args(&rt)?.skip(1).collect(rt.alloc())?;
+    for pair in names.chunks(2) {
+        trial(&rt, pair)?;
     }
     Ok(())
 }
 
-// One byte more than the limit is read, so that a longer container shows.
-fn trial<R: Files + Print + Eprint>(rt: &R, names: &[String], index: usize) -> io::Result<()> {
-    let mut bytes = [0u8; 65537];
-    let mut text = [0u8; 65536];
-    let file = arguments::read_argument(rt, names, index, true, &mut bytes)?;
-    let lines = arguments::read_argument(rt, names, index.wrapping_add(1), false, &mut text)?;
-    if !(file.opened & lines.opened) {
-        return Ok(());
-    }
-    println!(rt)?;
-    run(rt, &bytes[..file.length], &text[..lines.length])
-}
-
-fn run<R: Print + Eprint>(rt: &R, container: &[u8], text: &[u8]) -> io::Result<()> {
-    let mut numbers = [0i64; MOST];
-    let count = draws::read(text, &mut numbers);
-    lend(rt, container, &numbers, count)
-}
-
-// Lends so many of the numbers as draws.
-fn lend<R: Print + Eprint>(
-    rt: &R,
-    container: &[u8],
-    numbers: &[i64],
-    count: usize,
-) -> io::Result<()> {
-    if count <= numbers.len() {
-        report::report(rt, container, &numbers[..count])?;
+// A name that is missing is that of a file that can't be opened.
+fn trial<R: Files + Print + Eprint + AllocGlobal>(rt: &R, names: &[String]) -> io::Result<()> {
+    let container = file_bytes(rt, name(names, 0), true, MOST)?;
+    let text = file_bytes(rt, name(names, 1), false, LONGEST)?;
+    if let (Some(container), Some(text)) = (container, text) {
+        println!(rt)?;
+        report::report(rt, &container, &draws::read(rt.alloc(), &text)?)?;
     }
     Ok(())
+}
+
+fn name(names: &[String], index: usize) -> &str {
+    names.get(index).map_or("", |name| name.as_str())
 }

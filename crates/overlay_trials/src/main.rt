@@ -2,55 +2,48 @@
 // line, and then what the monitor prints of it, lent no draws.
 #![tactic(auto)]
 
+use arguments::{MOST, file_bytes};
 use std::fs::Files;
 use std::{env, io};
 
 fn main(rt: HostRuntime) -> io::Result<()> {
-    let names: Vec<String> = env::args(&rt)?.collect(rt.alloc())?;
-    for index in 1..names.len() {
-        if index % 5 == 1 {
-            trial(&rt, &names, index)?;
-        }
+    let names: Vec<String> = env::args(&rt)?.skip(1).collect(rt.alloc())?;
+    for group in names.chunks(5) {
+        trial(&rt, group)?;
     }
     Ok(())
 }
 
-// One byte more than the limit is read, so that a longer container or overlay shows.
-fn trial<R: Files + Print + Eprint>(rt: &R, names: &[String], index: usize) -> io::Result<()> {
-    let mut bytes = [0u8; 65537];
-    let file = arguments::read_argument(rt, names, index, true, &mut bytes)?;
-    if !file.opened {
-        return Ok(());
+fn trial<R: Files + Print + Eprint + AllocGlobal>(rt: &R, names: &[String]) -> io::Result<()> {
+    if let Some(container) = bytes(rt, names, 0)? {
+        println!(rt)?;
+        overlaid(rt, &container, names)?;
     }
-    println!(rt)?;
-    overlaid(rt, &bytes[..file.length], names, index.wrapping_add(1))
+    Ok(())
 }
 
-// Lends the four overlays that stand in the arguments from one on.
-fn overlaid<R: Files + Print + Eprint>(
+// Lends the four overlays that the names behind the first one have.
+fn overlaid<R: Files + Print + Eprint + AllocGlobal>(
     rt: &R,
     container: &[u8],
     names: &[String],
-    index: usize,
 ) -> io::Result<()> {
-    let mut bytes_0 = [0u8; 65537];
-    let mut bytes_1 = [0u8; 65537];
-    let mut bytes_2 = [0u8; 65537];
-    let mut bytes_3 = [0u8; 65537];
-    let file_0 = arguments::read_argument(rt, names, index, false, &mut bytes_0)?;
-    let file_1 = arguments::read_argument(rt, names, index.wrapping_add(1), false, &mut bytes_1)?;
-    let file_2 = arguments::read_argument(rt, names, index.wrapping_add(2), false, &mut bytes_2)?;
-    let file_3 = arguments::read_argument(rt, names, index.wrapping_add(3), false, &mut bytes_3)?;
-    if !(file_0.opened & file_1.opened & file_2.opened & file_3.opened) {
-        return Ok(());
+    let first = bytes(rt, names, 1)?;
+    let second = bytes(rt, names, 2)?;
+    let third = bytes(rt, names, 3)?;
+    let fourth = bytes(rt, names, 4)?;
+    if let (Some(first), Some(second), Some(third), Some(fourth)) = (first, second, third, fourth) {
+        report::report_overlaid(rt, container, &first, &second, &third, &fourth)?;
     }
-    report::report_overlaid(
-        rt,
-        container,
-        &bytes_0[..file_0.length],
-        &bytes_1[..file_1.length],
-        &bytes_2[..file_2.length],
-        &bytes_3[..file_3.length],
-    )?;
     Ok(())
+}
+
+// The bytes of the file of a name; the first one's name is printed. One that is missing is that of a file that can't be opened.
+fn bytes<R: Files + Print + Eprint + AllocGlobal>(
+    rt: &R,
+    names: &[String],
+    index: usize,
+) -> io::Result<Option<Vec<u8>>> {
+    let name = names.get(index).map_or("", |name| name.as_str());
+    file_bytes(rt, name, index == 0, MOST)
 }

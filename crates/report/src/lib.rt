@@ -15,8 +15,15 @@ use std::io;
 pub fn report<R: Print + Eprint>(rt: &R, container: &[u8], draws: &[i64]) -> io::Result<u32>
     ensures { IfOk result (λ number. CallNumber (given container.now draws.now [] [] [] []) number) }
 {
-    let none = [0u8; 0];
-    run(rt, container, draws, &none, &none, &none, &none, false)
+    run(
+        container,
+        draws,
+        &[],
+        &[],
+        &[],
+        &[],
+        |output, trace, _, answer| { lines(rt, container, output, trace, answer) },
+    )
 }
 
 // The same with overlays, and no draws.
@@ -31,9 +38,14 @@ pub fn report_overlaid<R: Print + Eprint>(
     ensures { IfOk result (λ number. CallNumber (given container.now [] overlay_0.now overlay_1.now
         overlay_2.now overlay_3.now) number) }
 {
-    let draws = [0i64; 0];
     run(
-        rt, container, &draws, overlay_0, overlay_1, overlay_2, overlay_3, false,
+        container,
+        &[],
+        overlay_0,
+        overlay_1,
+        overlay_2,
+        overlay_3,
+        |output, trace, _, answer| lines(rt, container, output, trace, answer),
     )
 }
 
@@ -41,20 +53,34 @@ pub fn report_overlaid<R: Print + Eprint>(
 pub fn export<R: Print + Eprint>(rt: &R, container: &[u8], draws: &[i64]) -> io::Result<u32>
     ensures { IfOk result (λ number. CallNumber (given container.now draws.now [] [] [] []) number) }
 {
-    let none = [0u8; 0];
-    run(rt, container, draws, &none, &none, &none, &none, true)
+    run(container, draws, &[], &[], &[], &[], |_, _, text, answer| {
+        printed::export(rt, text, answer)
+    })
 }
 
-fn run<R: Print + Eprint>(
+// Prints the lines of an answer.
+fn lines<R: Print>(
     rt: &R,
+    container: &[u8],
+    output: &[i64],
+    trace: &[u32],
+    answer: &[u64; 4],
+) -> io::Result<()> {
+    let steps = plan_part::step_count(layout::part(container, 0));
+    printed::print(rt, output, trace, answer, steps)
+}
+
+// Runs a container, and prints by a rule what the call leaves in the output, the trace, the text and the answer.
+fn run<F: FnOnce(&[i64], &[u32], &[u8], &[u64; 4]) -> io::Result<()>>(
     container: &[u8],
     draws: &[i64],
     overlay_0: &[u8],
     overlay_1: &[u8],
     overlay_2: &[u8],
     overlay_3: &[u8],
-    as_text: bool,
+    print: F,
 ) -> io::Result<u32>
+    requires { F.IsAlwaysCallable print }
     ensures { IfOk result (λ number. CallNumber (given container.now draws.now overlay_0.now
         overlay_1.now overlay_2.now overlay_3.now) number) }
 {
@@ -80,11 +106,6 @@ fn run<R: Print + Eprint>(
         &mut text,
         &mut answer,
     );
-    if as_text {
-        printed::export(rt, &text, &answer)?;
-        return Ok(number);
-    }
-    let steps = plan_part::step_count(layout::part(container, 0));
-    printed::print(rt, &output, &trace, &answer, steps)?;
+    print(&output, &trace, &text, &answer)?;
     Ok(number)
 }

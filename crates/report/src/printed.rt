@@ -31,8 +31,8 @@ pub fn export<R: Print + Eprint>(rt: &R, bytes: &[u8], answer: &[u64; 4]) -> io:
 
 // So many bytes of a text.
 fn beginning<R: Print>(rt: &R, bytes: &[u8], length: usize) -> io::Result<()> {
-    if length <= bytes.len() {
-        rt.write_all(&bytes[..length])?;
+    if let Some(text) = bytes.get(..length) {
+        rt.write_all(text)?;
     }
     Ok(())
 }
@@ -54,43 +54,25 @@ impl fmt::Display for Refused<'_> {
 
 // The lines of the first steps.
 fn finished<R: Print>(rt: &R, trace: &[u32], steps: usize) -> io::Result<()> {
-    for step in 0..steps {
-        step_line(rt, trace, step)?;
+    for (step, line) in trace.chunks_exact(4).take(steps).enumerate() {
+        if let [first, second, third, fourth] = line {
+            println!(rt; "S {step} {first} {second} {third} {fourth}")?;
+        }
     }
     Ok(())
-}
-
-fn step_line<R: Print>(rt: &R, trace: &[u32], step: usize) -> io::Result<()> {
-    if trace.len() / 4 <= step {
-        return Ok(());
-    }
-    println!(rt;
-        "S {step} {} {} {} {}",
-        trace[4 * step],
-        trace[4 * step + 1],
-        trace[4 * step + 2],
-        trace[4 * step + 3]
-    )
 }
 
 // The released rows, row by row from the output's start.
 fn released<R: Print>(rt: &R, output: &[i64], rows: usize, columns: usize) -> io::Result<()> {
-    let mut at: usize = 0;
-    for _ in 0..rows {
-        print!(rt; "R")?;
-        row_values(rt, output, at, columns)?;
-        println!(rt)?;
-        at = at.wrapping_add(columns);
+    if columns == 0 {
+        return Ok(());
     }
-    Ok(())
-}
-
-// So many values from a place on.
-fn row_values<R: Print>(rt: &R, output: &[i64], at: usize, columns: usize) -> io::Result<()> {
-    for column in 0..columns {
-        if let Some(value) = output.get(at.wrapping_add(column)) {
+    for row in output.chunks(columns).take(rows) {
+        print!(rt; "R")?;
+        for value in row {
             print!(rt; " {value}")?;
         }
+        println!(rt)?;
     }
     Ok(())
 }

@@ -22,11 +22,6 @@ number_same given v l m o t x answer e a b n c d f g other others h r k =
     ∙ ap (λ (told : Told). get_or (numbers_of told) 0 0) (answer-same given (lent v l m o t x) other long h f r)
     ∙ sym (ap (λ (r : RunCall). r.number) (long-call given other others k))
 
-pub returns-then-as_text : goal.returns-then-as_text
-returns-then-as_text g c =
-    number_same _ _ _ _ _ _ _ _ c.cilunovay_run-number.ensures
-    (same 8192) (same 8192) (same 1024) (same 2048) (same 256) (same 35097) (same 4)
-
 pub returns : goal.returns
 returns g c =
     number_same _ _ _ _ _ _ _ _ c.cilunovay_run-number.ensures
