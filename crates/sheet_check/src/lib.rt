@@ -18,18 +18,14 @@ pub fn sheets_fit(table: &[u8]) -> bool
         return true;
     }
     let columns = byte(table, 0) as usize;
-    let rows = two(table, 2) as usize;
     if columns < sheets {
         return false;
     }
-    let mut cell = sheets - 1;
-    let mut row = 0;
-    while row < rows {
-        if !sheet_fits(table, cell) {
+    let rows = two(table, 2) as usize;
+    for row in 0..rows {
+        if !sheet_fits(table, sheets - 1 + row * columns) {
             return false;
         }
-        cell += columns;
-        row += 1;
     }
     true
 }

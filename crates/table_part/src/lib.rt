@@ -8,7 +8,7 @@ ghost use Rattle.table_part.specs.promises.Shape.{shape_of};
 use little_endian::{byte, two};
 
 // A table part's columns and rows.
-#[derive(Clone, Copy)]
+#[derive(Clone, Copy, Debug, PartialEq, Eq)]
 pub struct Shape {
     pub columns: usize,
     pub rows: usize,

@@ -1,16 +1,15 @@
 -- `sheet_check::sheets_fit` meets its contract. Assumes nothing.
-use Prim.Native.Nat.{◌+◌, ◌-◌, ◌≤◌, ◌<◌, ◌^◌}
+use Prim.Native.Nat.{◌-◌, ◌≤◌}
 use mathlib.Core.Path.{◌≡◌, sym, ◌∙◌}
 use mathlib.Core.Bool.{Bool}
 use mathlib.Core.Logic.{◌≢◌}
-use native.Mathlib.Nat.{mul-le-mul}
 use native.Mathlib.Omega.{arith}
 use borrow.Author.Tests.{eq-eqb, ne_eqb, le-leb, lt-leb}
 use Rattle.sheet_check.specs.Sheets.{all_fit, sheets_fit}
 use Rattle.table_part.specs.TablePart.{columns_of, sheets_of, row_count}
 use Rattle.sheet_check.proofs.SheetsLeft.{begin, wrong, keep, finish}
 use Rattle.sheet_check.proofs.sheets_fit.Goals as goal
-use Rattle.sheet_check.proofs.sheets_fit.Goals.{Else-columns-sheets, Else-sheets-eq0, In-loop-row}
+use Rattle.sheet_check.proofs.sheets_fit.Goals.{Else-columns-sheets, Else-sheets-eq0}
 
 pub returns-then-sheets-eq0 : goal.returns-then-sheets-eq0
 unfolding sheets_fit
@@ -41,32 +40,13 @@ returns-then-columns-sheets c =
 pub loop-row-init : goal.loop-row-init
 loop-row-init c = begin _ _
 
--- a cell of the column stands among the table's first cells
-small : (c : In-loop-row) → c.loop-row.cell + 255 < 2 ^ 32
-small c =
-    let rows : c.loop-row.row ≤ 65535 = omega arith in
-    let columns : columns_of c.args.table.now ≤ 255 = omega (arith, c.byte-columns.ensures) in
-    omega (arith, c.loop-row.invariant.place, mul-le-mul rows columns)
-
-pub sheet_fits-requires : goal.sheet_fits-requires
-sheet_fits-requires c = omega (arith, small c)
-
 pub returns-then-not-sheet_fits : goal.returns-then-not-sheet_fits
 returns-then-not-sheet_fits c =
-    checked (goal.at.returns-then-not-sheet_fits c).Else-columns-sheets (wrong c.loop-row.invariant (rw c.two-rows.ensures at c.loop-row-test.true) (sym c.sheet_fits.ensures ∙ c.if-not-sheet_fits.true))
-
-pub overflow_add-cell : goal.overflow_add-cell
-overflow_add-cell c = omega (arith, small (goal.at.overflow_add-cell c).In-loop-row)
-
-pub overflow_add-row : goal.overflow_add-row
-overflow_add-row c = omega (arith, c.loop-row-test.true)
-
-pub loop-row-smaller : goal.loop-row-smaller
-loop-row-smaller c = omega (arith, c.loop-row-test.true)
+    checked (goal.at.returns-then-not-sheet_fits c).Else-columns-sheets (wrong c.loop-row.invariant (rw c.two-rows.ensures at c.loop-row-test.true) (rw c.byte-columns.ensures at (sym c.sheet_fits.ensures ∙ c.if-not-sheet_fits.true)))
 
 pub loop-row-preserved : goal.loop-row-preserved
 loop-row-preserved c =
-    rw c.byte-columns.ensures (keep c.loop-row.invariant (rw c.two-rows.ensures at c.loop-row-test.true) (sym c.sheet_fits.ensures ∙ c.if-not-sheet_fits.false))
+    keep c.loop-row.invariant (rw c.two-rows.ensures at c.loop-row-test.true) (rw c.byte-columns.ensures at (sym c.sheet_fits.ensures ∙ c.if-not-sheet_fits.false))
 
 pub returns : goal.returns
 returns c =

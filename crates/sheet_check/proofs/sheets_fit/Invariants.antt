@@ -4,7 +4,4 @@ use Rattle.sheet_check.proofs.SheetsLeft.{Sheets}
 use Rattle.sheet_check.proofs.sheets_fit.Given as goal
 
 abbrev pub invariant-loop-row : goal.invariant-loop-row
-invariant-loop-row l = Sheets l.table (l.sheets - 1) l.cell l.row
-
-abbrev pub decreases-loop-row : goal.decreases-loop-row
-decreases-loop-row l = l.rows - l.row
+invariant-loop-row l = Sheets l.table (l.sheets - 1) l.row
