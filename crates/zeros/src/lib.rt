@@ -10,29 +10,11 @@ pub fn clear_memory(values: &mut [i64], labels: &mut [u32], marks: &mut [u64]) -
     ensures { Cleared (memory_of values.old labels.old marks.old) result
         (memory_of values.new labels.new marks.new) }
 {
-    if values.len() < 8192 {
+    if values.len() < 8192 || labels.len() < 8192 || marks.len() < 1024 {
         return false;
     }
-    if labels.len() < 8192 {
-        return false;
-    }
-    if marks.len() < 1024 {
-        return false;
-    }
-    let mut i = 0;
-    while i < 8192 {
-        values[i] = 0;
-        i += 1;
-    }
-    let mut j = 0;
-    while j < 8192 {
-        labels[j] = 0;
-        j += 1;
-    }
-    let mut k = 0;
-    while k < 1024 {
-        marks[k] = 0;
-        k += 1;
-    }
+    values[..8192].fill(0);
+    labels[..8192].fill(0);
+    marks[..1024].fill(0);
     true
 }
