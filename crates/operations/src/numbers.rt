@@ -22,10 +22,8 @@ pub fn digits_of(transform: Transform) -> u32
     ensures { result ≡ spec.digits_taken transform }
 {
     match transform {
-        Transform::Add(_) => 0,
-        Transform::Sub(_) => 0,
         Transform::Cut(digits) => digits,
-        Transform::Band(_) => 0,
+        _ => 0,
     }
 }
 
@@ -43,13 +41,12 @@ pub fn aggregate_code(aggregate: Aggregate) -> u32
 }
 
 // Whether APPLY's operation exists: a cut takes off 1 to 6 digits.
+#[tactic(auto, unfolding(label_discharge::specs::Discharge::transform_exists))]
 pub fn operation_fits(transform: Transform) -> bool
     ensures { result ≡ operation_fits transform }
 {
     match transform {
-        Transform::Add(_) => true,
-        Transform::Sub(_) => true,
-        Transform::Cut(digits) => (1 <= digits) & (digits <= 6),
-        Transform::Band(_) => true,
+        Transform::Cut(digits) => (1..=6).contains(&digits),
+        _ => true,
     }
 }
