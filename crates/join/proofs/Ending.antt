@@ -8,7 +8,8 @@ use native.Mathlib.Omega.{arith}
 use lib.Dec.{ltb}
 use lib.ListN.{length, take, drop}
 use borrow.Author.Tests.{lt-ltb, le-ltb, ltb-true, ltb-false}
-use Rattle.cells.specs.declared.Place.TheVariants.{At, Nowhere}
+use Rattle.std.specs.Prelude.{Some, None, Ok, Err}
+use Rattle.cells.specs.declared.At.{At}
 use Rattle.cells.specs.promises.Cells.{moved, can_move, Wide}
 use Rattle.cells.specs.promises.Search.{says, place_says}
 use Rattle.cells.specs.promises.Work.{Memory, cells_in, mark_room, AllKept}
@@ -17,10 +18,10 @@ use Rattle.pairs.specs.declared.Side.{Side}
 use Rattle.join.specs.promises.Ends.{side_of, Finished}
 use Rattle.pairs.specs.promises.Pairs.{Sides, MarksBelow, Joined, width, side_rows, side_labels, all_rows, left_marked, marked_rows}
 use Rattle.live_tables.specs.declared.LiveTable.{LiveTable}
+use Rattle.memory.specs.declared.Refusal.{Refusal}
 use Rattle.memory.specs.declared.Refusal.TheVariants.{NotClear, TooMany}
 use Rattle.live_tables.specs.declared.Stack.{Stack}
-use Rattle.memory.specs.declared.StepAnswer.TheVariants.{Made, Refused}
-use Rattle.memory.specs.declared.Stepped.{Stepped}
+use Rattle.memory.specs.declared.StepError.TheVariants.{Refused}
 use Rattle.memory.specs.promises.Stack.{last_slot, last_marks, mark_part, stack_in, with_table, marked_in, RowsAt, MarksAt}
 use Rattle.memory.specs.promises.Steps.{verdict, fits_in, leaves_rows, Done}
 use Rattle.plan.specs.Join.{check_join}
@@ -41,7 +42,7 @@ use Rattle.memory.proofs.LiveTables.{at-is, marks-place, marks-inside, marked-ar
 use Rattle.memory.proofs.MovedDown.{down-values, down-labels, moved_down, marks-down}
 use Rattle.memory.proofs.Stacks.{fits-slot, marks-count}
 
-module _ (stack : Stack) (index : ℕ) {left right : Side} {m : Memory} (sides : Sides (length m.work.values) (length m.work.labels) left right) (marked : MarksBelow left (length m.marks))
+module _ {left right : Side} {m : Memory} (sides : Sides (length m.work.values) (length m.work.labels) left right) (marked : MarksBelow left (length m.marks))
     {u : Memory} {count : ℕ} (j : Joined left right m count u) where
   abbrev rows : List Row
   rows = marked_rows m left right
@@ -49,7 +50,7 @@ module _ (stack : Stack) (index : ℕ) {left right : Side} {m : Memory} (sides :
   as_many : length rows ≡ length (all_rows (cells_in m.work) left right)
   as_many = all-length m left right marked
 
-  pub finished-over : 256 < count → Finished stack index left right m (record { answer = Refused TooMany; stack = stack }) u
+  pub finished-over : 256 < count → Finished left right m (Err TooMany) u
   finished-over h = record {
     refused = λ _. (refl, j.grown.below, j.marks-below);
     made = λ k. absurd (omega (arith, j.grown.counted, as_many));
@@ -86,15 +87,15 @@ module _ (stack : Stack) (index : ℕ) {left right : Side} {m : Memory} (sides :
     pub rows-labels : Moves last_slot left.at (count * width left right) (length u.work.labels)
     rows-labels = down-labels left.at (width left right) count rows above all-wide total (omega (arith, sides.left_below)) few sides.values-room sides.labels-room
 
-    pub finished-made : {after : Stack} {marks : List ℕ} {r : Bool} → after ≡ with_table stack index (width left right) count → left.marks + 256 ≤ last_marks
+    pub finished-made : {marks : List ℕ} {r : Bool} → left.marks + 256 ≤ last_marks
         → r ≡ can_move last_marks left.marks count (length u.marks) → marks ≡ cond r (moved last_marks left.marks count u.marks) u.marks
-        → Finished stack index left right m (record { answer = Made; stack = after }) (record { work = moved_in last_slot left.at (count * width left right) u.work; marks = marks })
-    finished-made {after} is low told is-marks =
+        → Finished left right m (Ok count) (record { work = moved_in last_slot left.at (count * width left right) u.work; marks = marks })
+    finished-made low told is-marks =
         let down = moved_down left.at (width left right) count rows above all-wide total (omega (arith, sides.left_below)) few sides.values-room sides.labels-room in
         let marks-moved = marks-down left.marks count rows (j.marked (omega (arith, total, as_many))) total low h marked.mark-room told is-marks in
         record {
           refused = λ k. absurd (omega (arith, total));
-          made = λ k. ((λ i. record { answer = Made; stack = (is ∙ ap (with_table stack index (width left right)) (sym total)) i }), down, marks-moved);
+          made = λ k. (ap Ok (sym total), down, marks-moved);
           kept = record { work = down.kept; marks = marks-moved.kept };
         }
 
@@ -114,11 +115,11 @@ module _ (left right : ℕ) (supply : Supply) (m : Memory) (stack : Stack) {lowe
   verdict-is : verdict (Join left right) supply (stack_in m stack) ≡ or_else keys (refuse_if (ltb 256 (length (marked_rows m l r))) 34 256 0)
   verdict-is = join-verdict left right supply m stack room f
 
-  pub key-done : {row column : ℕ} → place_says 31 0 (At row column) ≡ says keys → Done (Join left right) supply m stack (record { answer = Refused (NotClear row column); stack = stack }) m
-  key-done {row} {column} e = unchanged-done (Join left right) supply m stack t (NotClear row column) (verdict-is ∙ rw (← says_is e, zero-add row))
+  pub key-done : {at : At} → place_says 31 0 (Ok (Some at)) ≡ says keys → Done (Join left right) supply m stack (Err (Refused (NotClear at))) m
+  key-done {at} e = unchanged-done (Join left right) supply m stack t (NotClear at) (verdict-is ∙ rw (← says_is e, zero-add at.row))
 
   over_done : {u : Memory} → keys ≡ fine → 256 < length (marked_rows m l r) → take last_slot (cells_in u.work) ≡ take last_slot (cells_in m.work)
-      → take last_marks u.marks ≡ take last_marks m.marks → AllKept m u → Done (Join left right) supply m stack (record { answer = Refused TooMany; stack = stack }) u
+      → take last_marks u.marks ≡ take last_marks m.marks → AllKept m u → Done (Join left right) supply m stack (Err (Refused TooMany)) u
   over_done {u} e h below marks-below k =
       let v = f.sides.values-room in
       let l = f.sides.labels-room in
@@ -131,7 +132,7 @@ module _ (left right : ℕ) (supply : Supply) (m : Memory) (stack : Stack) {lowe
       leaves {number} r n = let same : 34 ≡ number = cc in let z : true ≡ false = rw (← same) at n in absurd (let o : ◌≡◌ {A = ℕ} 0 1 = cc in omega arith)
 
   rows-done : {u : Memory} → keys ≡ fine → length (marked_rows m l r) ≤ 256 → RowsAt lower.at (marked_rows m l r) m.work u.work → MarksAt lower.marks (marked_rows m l r) m.marks u.marks
-      → Done (Join left right) supply m stack (record { answer = Made; stack = with_table stack lower.slot (width l r) (length (marked_rows m l r)) }) u
+      → Done (Join left right) supply m stack (Ok (with_table stack lower.slot (width l r) (length (marked_rows m l r)))) u
   rows-done {u} e h stand marks =
       let marked = marks-inside f.below f.ready-is room in
       made-done (Join left right) supply m stack t lower.slot (width l r) (length (marked_rows m l r)) (marked_rows m l r) u f.ready-is room
@@ -140,9 +141,23 @@ module _ (left right : ℕ) (supply : Supply) (m : Memory) (stack : Stack) {lowe
       (marked-are-wide m f.in-lower marked) (rows-in-wide m.work f.sides r f.in-upper.below))
       (at-is f.below) stand (marks-place f.below) marks
 
-  pub rows-made-done : {done : Stepped} {u : Memory} → place_says 31 0 Nowhere ≡ says keys → Finished stack lower.slot l r m done u → Done (Join left right) supply m stack done u
-  rows-made-done {done} {u} e g = go (ltb 256 (length (marked_rows m l r))) refl
+  -- too many rows are refused, and no more are made
+  pub too-many-done : {refusal : Refusal} {u : Memory} → place_says 31 0 (Ok None) ≡ says keys → Finished l r m (Err refusal) u → Done (Join left right) supply m stack (Err (Refused refusal)) u
+  too-many-done {refusal} {u} e g = go (ltb 256 (length (marked_rows m l r))) refl
     where
-      go : (b : Bool) → ltb 256 (length (marked_rows m l r)) ≡ b → Done (Join left right) supply m stack done u
-      go true b = let r = g.refused (ltb-true 256 _ b) in rw r.0 (over_done (sym (says_is e)) (ltb-true 256 _ b) r.1 r.2 g.kept)
-      go false b = let r = g.made (ltb-false 256 _ b) in rw r.0 (rows-done (sym (says_is e)) (ltb-false 256 _ b) r.1 r.2)
+      go : (b : Bool) → ltb 256 (length (marked_rows m l r)) ≡ b → Done (Join left right) supply m stack (Err (Refused refusal)) u
+      go true b =
+          let f = g.refused (ltb-true 256 _ b) in
+          let is : refusal ≡ TooMany = cc (f.0) in
+          rw is (over_done (sym (says_is e)) (ltb-true 256 _ b) f.1 f.2 g.kept)
+      go false b = cc ((g.made (ltb-false 256 _ b)).0)
+
+  pub rows-made-done : {made : ℕ} {u : Memory} → place_says 31 0 (Ok None) ≡ says keys → Finished l r m (Ok made) u → Done (Join left right) supply m stack (Ok (with_table stack lower.slot (width l r) made)) u
+  rows-made-done {made} {u} e g = go (ltb 256 (length (marked_rows m l r))) refl
+    where
+      go : (b : Bool) → ltb 256 (length (marked_rows m l r)) ≡ b → Done (Join left right) supply m stack (Ok (with_table stack lower.slot (width l r) made)) u
+      go true b = cc ((g.refused (ltb-true 256 _ b)).0)
+      go false b =
+          let f = g.made (ltb-false 256 _ b) in
+          let is : made ≡ length (marked_rows m l r) = cc (f.0) in
+          rw is (rows-done (sym (says_is e)) (ltb-false 256 _ b) f.1 f.2)

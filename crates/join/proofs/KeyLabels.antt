@@ -1,7 +1,7 @@
 -- The test of the keys' labels. Assumes nothing.
 use Prim.Native.Nat.{ℕ, zero, suc, ◌+◌, ◌*◌, ◌%◌, ◌^◌, ◌≤◌, ◌<◌}
-use mathlib.Core.Path.{◌≡◌, refl, ap, ◌∙◌}
-use mathlib.Core.Bool.{Bool, true, false, not, ◌&&◌}
+use mathlib.Core.Path.{◌≡◌, refl, sym, ap, ◌∙◌}
+use mathlib.Core.Bool.{Bool, true, false, not, ◌&&◌, true≢false}
 use mathlib.Core.List.{List, [], ◌∷◌}
 use mathlib.Core.Logic.{◌⊎◌, inl, inr, ⊎_elim}
 use native.Mathlib.Omega.{arith}
@@ -12,22 +12,20 @@ use Rattle.pairs.specs.promises.Pairs.{side_labels}
 use Rattle.pairs.specs.declared.Side.{Side}
 use Rattle.plan.specs.Masks.{in_mask}
 use Rattle.cells.specs.promises.Cells.{grid_of}
-use Rattle.cells.specs.promises.Search.{place_says, not_clear_at, Reply, says}
-use Rattle.cells.specs.declared.Place.{Place}
-use Rattle.cells.specs.declared.Place.TheVariants.{At, Nowhere, DoesNotFit}
+use Rattle.cells.specs.promises.Search.{place_says, not_clear_at, says}
+use Rattle.std.specs.Prelude.{Option, Some, None, Result, Ok, is_some}
+use Rattle.cells.specs.declared.At.{At}
+use Rattle.cells.specs.declared.DoesNotFit.{DoesNotFit}
 use Rattle.plan.specs.Table.{clear}
 use Rattle.plan.specs.Verdict.{Verdict, fine, refused, or_else, refuse_if, first_not_clear, not_clear}
 use Rattle.cells.proofs.CellLaws.{le-within}
 use Rattle.cells.proofs.Masks.{one-column}
-use Rattle.memory.proofs.Finish.{says_is, never-unfit}
-use Rattle.cells.specs.contracts.Place.{the_type}
+use Rattle.memory.proofs.Finish.{says_is}
 use Rattle.cells.proofs.Wanted.{search-same}
-use denote.Enum.Declared.{tag_of}
-use types.Run.{OneOf, miss}
 
 -- ---- a search in the key column of a table
 
-pub key-search : (labels : List ℕ) (side : Side) (first : ℕ) (p : Place) → side.rows ≤ 256 → side.columns ≤ 8 → side.key < side.columns → side.at + side.rows * side.columns ≤ length labels
+pub key-search : (labels : List ℕ) (side : Side) (first : ℕ) (p : Result (Option At) DoesNotFit) → side.rows ≤ 256 → side.columns ≤ 8 → side.key < side.columns → side.at + side.rows * side.columns ≤ length labels
     → place_says 31 first p ≡ not_clear_at 31 first labels side.at side.rows side.columns (1 * 2 ^ side.key % 2 ^ 32)
     → place_says 31 first p ≡ says (not_clear (λ c. eqb c side.key) 31 first (side_labels labels side))
 key-search labels side first p r c k h e =
@@ -57,14 +55,12 @@ module _ (wanted : ℕ → Bool) (number : ℕ) where
       (λ f. let same : row ≡ r = cc in omega arith)
       (in_row 0 row (take columns labels))
 
--- ---- the places that are answered
+-- ---- the cells that are answered
 
-pub first-stands : (p : Place) (v w : Verdict) → OneOf (0 ∷ 2 ∷ []) (tag_of the_type p) → place_says 31 0 p ≡ says v → place_says 31 0 p ≡ says (or_else v w)
-first-stands (At row column) v w k e = rw (← says_is e)
-first-stands Nowhere v w k e = absurd (miss (0 ∷ 2 ∷ []) 1 tt k)
-first-stands DoesNotFit v w k e = absurd (never-unfit e)
+pub first-stands : (first : Option At) (v w : Verdict) → true ≡ is_some first → place_says 31 0 (Ok first) ≡ says v → place_says 31 0 (Ok first) ≡ says (or_else v w)
+first-stands (Some at) v w t e = rw (← says_is e)
+first-stands None v w t e = absurd (true≢false t)
 
-pub second-stands : (p : Place) (first : ℕ) {s : Reply} → OneOf (1 ∷ 2 ∷ []) (tag_of the_type p) → place_says 31 first p ≡ s → place_says 31 0 p ≡ s
-second-stands (At row column) first k e = absurd (miss (1 ∷ 2 ∷ []) 0 tt k)
-second-stands Nowhere first k e = e
-second-stands DoesNotFit first k e = e
+pub none-left : (first : Option At) → false ≡ is_some first → first ≡ None
+none-left (Some at) t = absurd (true≢false (sym t))
+none-left None t = refl

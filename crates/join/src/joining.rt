@@ -9,11 +9,9 @@ ghost use Rattle.join.specs.promises.Ends as ends;
 ghost use Rattle.pairs.specs.promises.Pairs as spec;
 
 use crate::keys::unclear_key;
-use cells::Place;
-use memory::{LAST_MARKS, LAST_SLOT, LiveTable, MARK_ROOM, Refusal, Stack, StepAnswer, Stepped};
+use memory::{LAST_MARKS, LAST_SLOT, LiveTable, MARK_ROOM, Refusal, Stack, StepError};
 use pairs::{Side, join_rows};
 use plan::Step;
-use widths::Width;
 
 // Joins the two top tables: each left row with each right row whose key it matches.
 pub fn join(
@@ -23,39 +21,25 @@ pub fn join(
     stack: Stack,
     left: usize,
     right: usize,
-) -> Stepped
+) -> Result<Stack, StepError>
     ensures { (supply : Supply) → Done (Join left right) supply
         (memory_of values.old labels.old marks.old) stack result
         (memory_of values.new labels.new marks.new) }
 {
     if marks.len() < MARK_ROOM {
-        return Stepped {
-            answer: StepAnswer::DoesNotFit,
-            stack: stack,
-        };
+        return Err(StepError::DoesNotFit);
     }
     let step = Step::Join { left, right };
-    let Width::Columns(columns) = memory::fit(values.len(), labels.len(), stack, step) else {
-        return Stepped {
-            answer: StepAnswer::DoesNotFit,
-            stack: stack,
-        };
-    };
+    let columns = memory::fit(values.len(), labels.len(), stack, step)?;
     let lower = memory::live_table(stack, 1);
     let upper = memory::live_table(stack, 0);
     let l = side(lower, left);
     let r = side(upper, right);
-    match unclear_key(labels, l, r) {
-        Place::At(row, column) => Stepped {
-            answer: StepAnswer::Refused(Refusal::NotClear(row, column)),
-            stack: stack,
-        },
-        Place::DoesNotFit => Stepped {
-            answer: StepAnswer::DoesNotFit,
-            stack: stack,
-        },
-        Place::Nowhere => make_table(values, labels, marks, stack, lower.slot, columns, l, r),
+    if let Some(at) = unclear_key(labels, l, r)? {
+        return Err(StepError::Refused(Refusal::NotClear(at)));
     }
+    let made = make_table(values, labels, marks, columns, l, r)?;
+    Ok(memory::with_table(stack, lower.slot, columns, made))
 }
 
 // A live table, with its key.
@@ -71,33 +55,25 @@ fn side(table: LiveTable, key: usize) -> Side
     }
 }
 
-// Makes the rows, of so many columns, and copies them down to the left table's slot.
+// Makes the rows, of so many columns, and copies them down to the left table's slot; answers how many there are.
 fn make_table(
     values: &mut [i64],
     labels: &mut [u32],
     marks: &mut [u64],
-    stack: Stack,
-    index: usize,
     columns: usize,
     left: Side,
     right: Side,
-) -> Stepped
+) -> Result<usize, Refusal>
     requires sides { spec.Sides (length values.old) (length labels.old) left right × (columns ≡ spec.width left right) }
     requires marks_below { spec.MarksBelow left (length marks.old) × (left.marks + 256 ≤ last_marks) }
-    ensures { ends.Finished stack index left right (memory_of values.old labels.old marks.old) result
+    ensures { ends.Finished left right (memory_of values.old labels.old marks.old) result
         (memory_of values.new labels.new marks.new) }
 {
     let made = join_rows(values, labels, marks, left, right);
     if 256 < made {
-        return Stepped {
-            answer: StepAnswer::Refused(Refusal::TooMany),
-            stack: stack,
-        };
+        return Err(Refusal::TooMany);
     }
     moves::move_cells(values, labels, LAST_SLOT, left.at, made * columns);
     moves::move_marks(marks, LAST_MARKS, left.marks, made);
-    Stepped {
-        answer: StepAnswer::Made,
-        stack: memory::with_table(stack, index, columns, made),
-    }
+    Ok(made)
 }

@@ -5,25 +5,26 @@ ghost use Rattle.cells.specs.promises.Search.{place_says};
 ghost use Rattle.cells.specs.promises.Search.{says};
 ghost use Rattle.pairs.specs.promises.Pairs as spec;
 
-use cells::Place;
+use cells::{At, DoesNotFit};
 use pairs::Side;
 
 // The first key that is not clear, the left keys before the right ones. Right rows are numbered on from the left.
-pub fn unclear_key(labels: &[u32], left: Side, right: Side) -> Place
+pub fn unclear_key(labels: &[u32], left: Side, right: Side) -> Result<Option<At>, DoesNotFit>
     requires { spec.Sides (length labels.now) (length labels.now) left right }
     ensures { place_says 31 0 result ≡ says
         (check_join left.key right.key (spec.side_labels labels.now left)
         (spec.side_labels labels.now right)) }
 {
-    let left_rows = left.rows;
-    let first = search::not_clear(labels, left.at, left.rows, left.columns, 1 << left.key);
-    let Place::Nowhere = first else {
-        return first;
+    let first = search::not_clear(labels, left.at, left.rows, left.columns, 1 << left.key)?;
+    if first.is_some() {
+        return Ok(first);
+    }
+    let second = search::not_clear(labels, right.at, right.rows, right.columns, 1 << right.key)?;
+    let Some(at) = second else {
+        return Ok(None);
     };
-    let second = search::not_clear(labels, right.at, right.rows, right.columns, 1 << right.key);
-    let Place::At(row, column) = second else {
-        return second;
-    };
-    let numbered = left_rows + row;
-    Place::At(numbered, column)
+    Ok(Some(At {
+        row: left.rows + at.row,
+        column: at.column,
+    }))
 }

@@ -2,7 +2,7 @@
 ghost use Rattle.cells.specs.promises.Work.{memory_of};
 ghost use Rattle.step.specs.promises.Taking.{Taken};
 
-use memory::{MARK_ROOM, Stack, StepAnswer, Stepped};
+use memory::{MARK_ROOM, Stack, StepError};
 use plan::Step;
 
 // Takes a step on the stack in work memory, with the draws that are left.
@@ -14,16 +14,13 @@ pub fn take_step(
     marks: &mut [u64],
     stack: Stack,
     step: Step,
-) -> Stepped
+) -> Result<Stack, StepError>
     ensures { Taken container.now draws.now step
         (memory_of values.old labels.old marks.old) stack result
         (memory_of values.new labels.new marks.new) }
 {
     if marks.len() < MARK_ROOM {
-        return Stepped {
-            answer: StepAnswer::DoesNotFit,
-            stack: stack,
-        };
+        return Err(StepError::DoesNotFit);
     }
     match step {
         Step::Scan { table } => scan::scan(container, values, labels, marks, stack, table),
