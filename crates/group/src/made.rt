@@ -72,7 +72,7 @@ fn write_group(
 {
     let all = group_values(values, next, g, row);
     let label = group_label(labels, next, g, row, sheets);
-    let value = accumulator::value_of(all, g.aggregate);
+    let value = all.value_of(g.aggregate);
     write_row(values, labels, g, row, to, value, label);
 }
 

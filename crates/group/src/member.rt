@@ -15,12 +15,12 @@ pub fn group_values(values: &[i64], next: &[usize; 256], g: Grouping, row: usize
 {
     let Grouping { table, column, .. } = g;
     let first = table.at + row * table.columns;
-    let mut all = accumulator::single(values[first + column]);
+    let mut all = Accumulator::single(values[first + column]);
     // The rows of a chain are no counted index.
     let mut other = next[row];
     while other < table.rows {
         let place = table.at + other * table.columns;
-        all = accumulator::with_value(all, values[place + column]);
+        all = all.with_value(values[place + column]);
         other = next[other];
     }
     all

@@ -11,6 +11,7 @@ use lib.Seq.{get_or-take, get_or-drop}
 use borrow.Author.Tests.{leb-true, ltb-true, ltb-false}
 use Rattle.cells.specs.promises.Work.{Work, Memory, cells_in, room, mark_room, Kept}
 use Rattle.live_tables.specs.declared.Stack.{Stack}
+use Rattle.memory.specs.promises.Steps.{stack_after}
 use Rattle.memory.specs.promises.Stack.{Ready, slot, mark_slot, mark_part, tables_to}
 use Rattle.plan.specs.Table.{Cell, Table, blank, rows_of, flat}
 use Rattle.step.specs.promises.Free.{in_table, in_tables, free, mark_in_table, mark_in_tables, free_mark, OnlyFreeOpen}
@@ -117,14 +118,14 @@ pub only-free-open : OnlyFreeOpen
 only-free-open fit step supply before stack done done' after after' room-is d e t v =
     let m = d.made t v in
     let n = e.made t v in
-    let same : done.stack ≡ done'.stack = m.stack_is ∙ sym n.stack_is in
-    let both : Both done.stack after after' = record {
+    let same : stack_after stack done ≡ stack_after stack done' = m.stack_is ∙ sym n.stack_is in
+    let both : Both (stack_after stack done) after after' = record {
       first = is-ready _ _ _ m.still;
       second = is-ready _ _ _ (rw (sym same) at n.still);
       first_marks = omega (arith, d.kept.marks.as_many);
       second-marks = omega (arith, e.kept.marks.as_many);
     } in
-    let tables-same : tables_to after done.stack done.stack.depth ≡ tables_to after' done.stack done.stack.depth
+    let tables-same : tables_to after (stack_after stack done) (stack_after stack done).depth ≡ tables_to after' (stack_after stack done) (stack_after stack done).depth
     = m.tables-are ∙ sym n.tables-are ∙ ap (λ (other : Stack). tables_to after' other other.depth) (sym same) in (
       same,
       d.kept.work.as-many-values ∙ sym e.kept.work.as-many-values,
@@ -134,20 +135,20 @@ only-free-open fit step supply before stack done done' after after' room-is d e 
       λ place f. mark-either place f (ltb place mark_room) refl both tables-same,
     )
   where
-    either : (place : ℕ) → free done.stack place ≡ false → (b : Bool) → ltb place room ≡ b → Both done.stack after after'
-        → tables_to after done.stack done.stack.depth ≡ tables_to after' done.stack done.stack.depth → Same after.work after'.work place
+    either : (place : ℕ) → free (stack_after stack done) place ≡ false → (b : Bool) → ltb place room ≡ b → Both (stack_after stack done) after after'
+        → tables_to after (stack_after stack done) (stack_after stack done).depth ≡ tables_to after' (stack_after stack done) (stack_after stack done).depth → Same after.work after'.work place
     either place f false b two same = past_room place (ltb-false place room b) d.kept.work e.kept.work
-    either place f true b two same = inner (in_tables done.stack done.stack.depth place) refl
+    either place f true b two same = inner (in_tables (stack_after stack done) (stack_after stack done).depth place) refl
       where
-        inner : (x : Bool) → in_tables done.stack done.stack.depth place ≡ x → Same after.work after'.work place
-        inner true x = in-tables done.stack after after' two in_table in_tables (λ _. refl) (λ _ _. refl) _ place (λ index low i r. in-table done.stack after after' two index place low i r) done.stack.depth two.first.depth x same
+        inner : (x : Bool) → in_tables (stack_after stack done) (stack_after stack done).depth place ≡ x → Same after.work after'.work place
+        inner true x = in-tables (stack_after stack done) after after' two in_table in_tables (λ _. refl) (λ _ _. refl) _ place (λ index low i r. in-table (stack_after stack done) after after' two index place low i r) (stack_after stack done).depth two.first.depth x same
         inner false x = absurd (true≢false (rw (b, x) at f))
 
-    mark-either : (place : ℕ) → free_mark done.stack place ≡ false → (b : Bool) → ltb place mark_room ≡ b → Both done.stack after after'
-        → tables_to after done.stack done.stack.depth ≡ tables_to after' done.stack done.stack.depth → get_or after.marks place 0 ≡ get_or after'.marks place 0
+    mark-either : (place : ℕ) → free_mark (stack_after stack done) place ≡ false → (b : Bool) → ltb place mark_room ≡ b → Both (stack_after stack done) after after'
+        → tables_to after (stack_after stack done) (stack_after stack done).depth ≡ tables_to after' (stack_after stack done) (stack_after stack done).depth → get_or after.marks place 0 ≡ get_or after'.marks place 0
     mark-either place f false b two same = past after.marks after'.marks mark_room place 0 (ltb-false place mark_room b) (d.kept.marks.past ∙ sym e.kept.marks.past)
-    mark-either place f true b two same = inner (mark_in_tables done.stack done.stack.depth place) refl
+    mark-either place f true b two same = inner (mark_in_tables (stack_after stack done) (stack_after stack done).depth place) refl
       where
-        inner : (x : Bool) → mark_in_tables done.stack done.stack.depth place ≡ x → get_or after.marks place 0 ≡ get_or after'.marks place 0
-        inner true x = in-tables done.stack after after' two mark_in_table mark_in_tables (λ _. refl) (λ _ _. refl) _ place (λ index low i r. mark-in-table done.stack after after' two index place low i r) done.stack.depth two.first.depth x same
+        inner : (x : Bool) → mark_in_tables (stack_after stack done) (stack_after stack done).depth place ≡ x → get_or after.marks place 0 ≡ get_or after'.marks place 0
+        inner true x = in-tables (stack_after stack done) after after' two mark_in_table mark_in_tables (λ _. refl) (λ _ _. refl) _ place (λ index low i r. mark-in-table (stack_after stack done) after after' two index place low i r) (stack_after stack done).depth two.first.depth x same
         inner false x = absurd (true≢false (rw (b, x) at f))

@@ -1,10 +1,10 @@
 -- What the promise of a step that has made its table leaves open, and that it leaves nothing else open.
-use Rattle.std.specs.Prelude.{ℕ, zero, suc, ◌+◌, ◌*◌, ◌≤◌, ◌≡◌, Bool, true, false, not, ◌&&◌, ◌||◌, leb, ltb, pos, length, get_or}
+use Rattle.std.specs.Prelude.{ℕ, zero, suc, ◌+◌, ◌*◌, ◌≤◌, ◌≡◌, Bool, true, false, not, ◌&&◌, ◌||◌, leb, ltb, pos, length, get_or, Result}
 use Rattle.cells.specs.promises.Work.{Memory, room, mark_room}
 use Rattle.live_tables.specs.declared.Stack.{Stack}
-use Rattle.memory.specs.declared.Stepped.{Stepped}
+use Rattle.memory.specs.declared.StepError.{StepError}
 use Rattle.memory.specs.promises.Stack.{slot, mark_slot, stack_in}
-use Rattle.memory.specs.promises.Steps.{verdict, DoneWhere}
+use Rattle.memory.specs.promises.Steps.{verdict, stack_after, DoneWhere}
 use Rattle.plan.specs.Supply.{Supply}
 use Rattle.plan.specs.Verdict.{fine}
 use Rattle.plan.specs.declared.Step.{Step}
@@ -35,14 +35,14 @@ free_mark stack place = ltb place mark_room && not (mark_in_tables stack stack.d
 -- Two functions that keep the promise answer the same stack, entries above its depth included, and leave the same in every element that is
 -- not free.
 abbrev pub OnlyFreeOpen : Type 0
-OnlyFreeOpen = (fit : Bool) (step : Step) (supply : Supply) (before : Memory) (stack : Stack) (done done' : Stepped) (after after' : Memory)
+OnlyFreeOpen = (fit : Bool) (step : Step) (supply : Supply) (before : Memory) (stack : Stack) (done done' : Result Stack StepError) (after after' : Memory)
     → mark_room ≤ length before.marks
     → DoneWhere fit step supply before stack done after → DoneWhere fit step supply before stack done' after'
     → fit ≡ true → verdict step supply (stack_in before stack) ≡ fine
-    → (done.stack ≡ done'.stack)
+    → (stack_after stack done ≡ stack_after stack done')
     × (length after.work.values ≡ length after'.work.values) × (length after.work.labels ≡ length after'.work.labels)
     × (length after.marks ≡ length after'.marks)
-    × ((place : ℕ) → free done.stack place ≡ false
+    × ((place : ℕ) → free (stack_after stack done) place ≡ false
     → (get_or after.work.values place (pos 0) ≡ get_or after'.work.values place (pos 0))
     × (get_or after.work.labels place 0 ≡ get_or after'.work.labels place 0))
-    × ((place : ℕ) → free_mark done.stack place ≡ false → get_or after.marks place 0 ≡ get_or after'.marks place 0)
+    × ((place : ℕ) → free_mark (stack_after stack done) place ≡ false → get_or after.marks place 0 ≡ get_or after'.marks place 0)

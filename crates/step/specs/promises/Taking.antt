@@ -1,11 +1,11 @@
 -- A step of any kind.
-use Rattle.std.specs.Prelude.{ℕ, Bool, List, ℤ, length}
+use Rattle.std.specs.Prelude.{ℕ, Bool, List, ℤ, length, Result}
 use Rattle.apply.specs.promises.Fits.{apply_fits}
 use Rattle.cells.specs.promises.Work.{Memory}
 use Rattle.container.specs.Contents.{tables_of}
 use Rattle.group.specs.promises.Fits.{group_fits}
 use Rattle.live_tables.specs.declared.Stack.{Stack}
-use Rattle.memory.specs.declared.Stepped.{Stepped}
+use Rattle.memory.specs.declared.StepError.{StepError}
 use Rattle.memory.specs.promises.Steps.{fits_in, DoneWhere}
 use Rattle.noise.specs.promises.Fits.{noise_fits}
 use Rattle.plan.specs.Supply.{Supply, supplied}
@@ -30,5 +30,5 @@ step_fits bytes draws (Group keys aggregate column) memory stack = group_fits ke
 step_fits bytes draws (Noise column) memory stack = noise_fits column (supply_of bytes draws) memory stack
 
 -- and what it then does
-abbrev pub Taken : List ℕ → List ℤ → Step → Memory → Stack → Stepped → Memory → Type 0
+abbrev pub Taken : List ℕ → List ℤ → Step → Memory → Stack → Result Stack StepError → Memory → Type 0
 Taken bytes draws step before stack = DoneWhere (step_fits bytes draws step before stack) step (supply_of bytes draws) before stack
