@@ -19,12 +19,8 @@ pub fn operand_at(values: &[i64], from: usize, operand: Operand) -> i64
 fn value_at(values: &[i64], from: usize, column: usize) -> i64
     ensures { result ≡ get_or values.now (from + column) (pos 0) }
 {
-    let length = values.len();
-    if length <= from {
+    let Some(row) = values.get(from..) else {
         return 0;
-    }
-    if length - from <= column {
-        return 0;
-    }
-    values[from + column]
+    };
+    row.get(column).copied().unwrap_or(0)
 }
