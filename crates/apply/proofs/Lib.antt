@@ -1,5 +1,4 @@
 -- What the proofs share. `Laws` is for the proofs of other crates to cite.
-mod Discharged
 mod Meaning
 mod RowMade
 pub mod Laws

@@ -2,12 +2,12 @@
 use Prim.Native.Nat.{ℕ, ◌+◌, ◌≤◌, ◌<◌}
 use mathlib.Core.Path.{◌≡◌, refl, sym, ap, ◌∙◌}
 use mathlib.Core.Bool.{Bool, true, false, cond, ◌&&◌, and-eq-true_iff}
-use mathlib.Core.List.{List, [], ◌∷◌, map}
+use mathlib.Core.List.{List, map}
 use lib.Dec.{leb, ltb}
 use lib.ListN.{length, get_or}
 use borrow.Author.Tests.{leb-true, ltb-true, lt-ltb}
 use Rattle.apply.specs.promises.Fits.{apply_fits}
-use Rattle.apply.specs.promises.Making.{rows_made}
+use Rattle.apply.specs.promises.Making.{value_at, label_at}
 use Rattle.apply_refusal.specs.promises.Refusals.{operand_formed, apply_says}
 use Rattle.cells.specs.promises.Labelled.{column_formed}
 use Rattle.cells.specs.promises.Search.{says, unfit}
@@ -15,10 +15,10 @@ use Rattle.cells.specs.promises.Work.{Work, Memory, mark_room}
 use Rattle.operations.specs.promises.Operations.{operation_fits}
 use Rattle.live_tables.specs.declared.LiveTable.{LiveTable}
 use Rattle.live_tables.specs.declared.Stack.{Stack}
-use Rattle.memory.specs.declared.StepAnswer.{StepAnswer}
-use Rattle.memory.specs.declared.StepAnswer.TheVariants.{Made}
+use Rattle.std.specs.Prelude.{Ok, Err}
+use Rattle.memory.specs.declared.StepError.{StepError}
 use Rattle.memory.specs.promises.Stack.{Ready, stack_in, widths_to, with_table, live_table, rows_in, marked_in, labels_in, Inside, RowsAt}
-use Rattle.memory.specs.promises.Steps.{step_says, verdict, fits, fits_in, DoneWhere}
+use Rattle.memory.specs.promises.Steps.{error_says, verdict, fits, fits_in, DoneWhere}
 use Rattle.plan.specs.Apply.{check_apply, applied}
 use Rattle.plan.specs.Steps.{check, make, too_many}
 use Rattle.plan.specs.Supply.{Supply}
@@ -28,14 +28,14 @@ use Rattle.plan.specs.Widths.{enough_tables, transform_column_exists, columns_ex
 use Rattle.plan.specs.declared.Step.{Step}
 use Rattle.plan.specs.declared.Step.TheVariants.{Apply}
 use Rattle.plan.specs.declared.Transform.{Transform}
-use Rattle.apply.proofs.RowMade.{new_of, new-bare, applied-is}
+use Rattle.apply.proofs.RowMade.{new_of, new-bare, applied-is, cell-made}
 use Rattle.extension.proofs.Ends.{extension-done}
-use Rattle.extension.proofs.Rows.{extended_from}
+use Rattle.extension.proofs.LabelledRows.{Formed, rows-formed}
+use Rattle.extension.proofs.Rows.{extended-same}
+use Rattle.extension.specs.promises.Extending.{rows_made}
+use Rattle.extension.specs.promises.Rows.{made_cell, extended_from}
 use Rattle.memory.proofs.Finish.{answered-done, fine-parts, or_nothing}
 use Rattle.memory.proofs.FormedTables.{formed-table}
-use Rattle.memory.specs.contracts.StepAnswer.{the_type}
-use denote.Enum.Declared.{tag_of}
-use types.Run.{OneOf}
 use Rattle.memory.proofs.LiveTables.{fits-parts, Stands, stands, inside, marks-inside, table-within, grid-is, stack_top, top-width}
 
 -- what an APPLY that fits finds
@@ -71,6 +71,13 @@ module _ (column : ℕ) (transform : Transform) where
         narrow = leb-true _ 8 (rw (top-width here) at placed.1);
       }
 
+  -- the operation exists, and the labels in the column are well-formed
+  pub operand-formed : (labels : List ℕ) (table : LiveTable) → says fine ≡ apply_says labels table column transform
+      → (operation_fits transform ≡ true) × (column_formed column (labels_in labels table) ≡ true)
+  operand-formed labels table e =
+      let both = (and-eq-true_iff (operation_fits transform) _).0 (fine-parts _ e).0 in
+      (both.0, (formed-table labels table column both.1).formed)
+
   module _ (supply : Supply) (m : Memory) (stack : Stack) {table : LiveTable} {width : ℕ} (room : mark_room ≤ length m.marks) (t : fits_in step supply m stack ≡ true)
       (f : ApplyFits column transform (length m.work.values) (length m.work.labels) stack table width) where
     -- the labels, which do not depend on the marks
@@ -95,24 +102,20 @@ module _ (column : ℕ) (transform : Transform) where
     made-is = ap (make step supply) (stack_top m f.here) ∙ ap (λ (l : List Row). record { columns = table.columns + 1; rows = l }) (applied-is column transform 0 (marked_in m table))
 
     -- the labels refuse it, or are none
-    pub refused-apply : (answer : StepAnswer) → OneOf (1 ∷ 2 ∷ []) (tag_of the_type answer) → step_says answer ≡ apply_says labels table column transform
-        → DoneWhere (apply_fits column transform supply m stack) step supply m stack (record { answer = answer; stack = stack }) m
-    refused-apply answer k e = answered-done step supply m stack answer k verdict-is (e ∙ ap (λ (b : Bool). cond b (says (check_apply column transform (labels_in labels table))) unfit) (sym fits-is))
+    pub refused-apply : (wrong : StepError) → error_says wrong ≡ apply_says labels table column transform
+        → DoneWhere (apply_fits column transform supply m stack) step supply m stack (Err wrong) m
+    refused-apply wrong e = answered-done step supply m stack wrong verdict-is (e ∙ ap (λ (b : Bool). cond b (says (check_apply column transform (labels_in labels table))) unfit) (sym fits-is))
 
     module _ (e : says fine ≡ apply_says labels table column transform) where
-      pub made-apply : {after : Work} → RowsAt table.at (rows_made table column transform m.work) m.work after
-          → DoneWhere (apply_fits column transform supply m stack) step supply m stack (record { answer = Made; stack = with_table stack table.slot width table.rows }) (record { work = after; marks = m.marks })
+      pub made-apply : {after : Work} → RowsAt table.at (rows_made (λ number first row. value_at first row transform) (λ word. label_at word transform) table column m.work) m.work after
+          → DoneWhere (apply_fits column transform supply m stack) step supply m stack (Ok (with_table stack table.slot width table.rows)) (record { work = after; marks = m.marks })
       made-apply rows =
           let p = fine-parts _ e in
+          let formed = operand-formed labels table e in
+          let same = extended-same (Formed table.columns column) (made_cell (λ number first row. value_at first row transform) (λ word. label_at word transform) column) (new_of column transform)
+          (cell-made table.columns column transform formed.0 f.operand_below) 0 (rows_in m.work table) (rows-formed m.work table f.inside_is column formed.1) in
           rw f.width_is (extension-done (new_of column transform) (new-bare column transform) step supply m stack f.is-ready f.here f.inside_is room
-          (fits-is ∙ p.0) refl (verdict-is ∙ p.1) f.narrow made-is (rw (applied-is column transform 0 (rows_in m.work table)) at rows))
-
-  -- the operation exists, and the labels in the column are well-formed
-  pub operand-formed : (labels : List ℕ) (table : LiveTable) → says fine ≡ apply_says labels table column transform
-      → (operation_fits transform ≡ true) × (column_formed column (labels_in labels table) ≡ true)
-  operand-formed labels table e =
-      let both = (and-eq-true_iff (operation_fits transform) _).0 (fine-parts _ e).0 in
-      (both.0, (formed-table labels table column both.1).formed)
+          (fits-is ∙ p.0) refl (verdict-is ∙ p.1) f.narrow made-is (rw same at rows))
 
 -- arguments that do not fit APPLY
 pub misfit-first : (column : ℕ) (transform : Transform) (supply : Supply) (m : Memory) (stack : Stack) → fits_in (Apply column transform) supply m stack ≡ false → apply_fits column transform supply m stack ≡ false

@@ -1,32 +1,32 @@
--- The row that APPLY makes of a row in memory, and the table that it makes of a table. Assumes nothing.
-use Prim.Native.Nat.{ℕ, suc, ◌+◌, ◌≤◌, ◌<◌}
+-- The row that APPLY makes of a row, and the rows that it makes of rows. Assumes nothing.
+use Prim.Native.Nat.{ℕ, zero, suc, ◌+◌, ◌<◌}
 use mathlib.Core.Path.{◌≡◌, refl, sym, ap, ap₂, ◌∙◌}
 use mathlib.Core.Bool.{true}
 use mathlib.Core.List.{List, [], ◌∷◌, map}
+use native.Mathlib.Nat.{le_of_suc-le-suc, not-suc-le-zero}
+use native.Mathlib.Omega.{arith}
 use lib.IntN.{ℤ, pos}
-use lib.ListN.{length, get_or, set}
-use Rattle.apply.specs.promises.Making.{value_at, rows_made}
-use Rattle.label_discharge.specs.Discharge.{after_t}
-use Rattle.cells.specs.promises.Cells.{moved, row_from}
-use Rattle.cells.specs.promises.Work.{Work, work, cells_in, room}
-use Rattle.cells.specs.promises.Written.{Put}
-use Rattle.live_tables.specs.declared.LiveTable.{LiveTable}
-use Rattle.memory.specs.promises.Stack.{rows_in}
+use lib.ListN.{length, get_or}
+use Rattle.apply.specs.promises.Making.{value_at, label_at}
+use Rattle.extension.specs.promises.Rows.{values_of, made_cell, extended_from}
+use Rattle.label_discharge.specs.Discharge.{forbids_t, after_t, transformed, transform_answer}
+use Rattle.label_words.specs.WellFormed.{well_formed}
+use Rattle.operations.specs.promises.Operations.{operation_fits}
 use Rattle.plan.specs.Apply.{transform_value, new_cell, applied_row}
 use Rattle.plan.specs.Operands.{operand_value}
 use Rattle.plan.specs.Numbers.{transform_code, digits_taken}
-use Rattle.plan.specs.Table.{Cell, Row, cell_at}
+use Rattle.plan.specs.Table.{Cell, Row, blank, cell_at}
 use Rattle.plan.specs.Widths.{transform_column_exists}
 use Rattle.plan.specs.declared.Operand.{Operand}
 use Rattle.plan.specs.declared.Operand.TheVariants.{Constant, Column}
 use Rattle.plan.specs.declared.Transform.{Transform}
 use Rattle.plan.specs.declared.Transform.TheVariants.{Add, Sub, Cut, Band}
-use Rattle.arithmetic.specs.Arithmetic.{plus, minus, cut, band}
+use Rattle.arithmetic.specs.Arithmetic.{plus, minus}
 use Rattle.cells.proofs.CellLaws.{cell}
 use Rattle.cells.proofs.Rows.{bare}
-use Rattle.extension.proofs.Extending.{made_of}
-use Rattle.extension.proofs.RowExtended as row
-use Rattle.extension.proofs.Rows.{extended_from}
+use Rattle.extension.proofs.LabelledRows.{Formed}
+use Rattle.extension.proofs.Labels.{left-after}
+use Rattle.label_laws.proofs.Laws.{forbids-T, after-T}
 use Rattle.operand.proofs.Laws.{operand-of}
 
 -- the cell that a row gets, whatever its number
@@ -52,27 +52,32 @@ pub applied-is : (column : ℕ) (transform : Transform) (i : ℕ) (rows : List R
 applied-is column transform i [] = refl
 applied-is column transform i (row ∷ rest) = ap (λ (l : List Row). applied_row column transform row ∷ l) (applied-is column transform (suc i) rest)
 
-pub rows_are : (top : LiveTable) (column : ℕ) (transform : Transform) (w : Work) → rows_made top column transform w ≡ made_of (new_of column transform) top w top.rows
-rows_are top column transform w = applied-is column transform 0 (rows_in w top)
+-- the value of a cell, among the values of its row
+value-in : (cells : List Cell) (i : ℕ) → i < length cells → (get_or cells i blank).value ≡ get_or (map (λ cell. cell.value) cells) i (pos 0)
+value-in [] i h = absurd (not-suc-le-zero h)
+value-in (first ∷ rest) zero h = refl
+value-in (first ∷ rest) (suc i) h = value-in rest i (le_of_suc-le-suc h)
 
-module _ (w : Work) (from columns column : ℕ) (transform : Transform) (p : from + columns ≤ length w.values) (q : from + columns ≤ length w.labels)
-    (k : column < columns) (f : transform_column_exists transform columns ≡ true) where
-  abbrev here : Row
-  here = row_from columns (cells_in w) from
+-- what the code makes of a row whose label is well-formed is the cell that it gets
+module _ (columns column : ℕ) (transform : Transform) (o : operation_fits transform ≡ true) (t : transform_column_exists transform columns ≡ true) where
+  value-made : (i : ℕ) (row : Row) → Formed columns column row → value_at (cell_at column row).value (values_of row) transform ≡ transform_value transform (cell_at column row).value row
+  value-made i row f = go transform t
+    where
+      read : (k : ℕ) → k < columns → (cell_at k row).value ≡ get_or (values_of row) (0 + k) (pos 0)
+      read k h = let z : 0 + k ≡ k = omega arith in rw z (value-in row.cells k (omega (arith, f.wide)))
 
-  value_in : (i : ℕ) → i < columns → (cell_at i here).value ≡ get_or w.values (from + i) (pos 0)
-  value_in = row.value_in w from columns p q
+      go : (u : Transform) → transform_column_exists u columns ≡ true → value_at (cell_at column row).value (values_of row) u ≡ transform_value u (cell_at column row).value row
+      go (Add operand) e = ap (plus (cell_at column row).value) (sym (operand-of row (values_of row) 0 columns read operand e))
+      go (Sub operand) e = ap (minus (cell_at column row).value) (sym (operand-of row (values_of row) 0 columns read operand e))
+      go (Cut digits) e = refl
+      go (Band width) e = refl
 
-  value_made : (t : Transform) → transform_column_exists t columns ≡ true → transform_value t (cell_at column here).value here ≡ value_at w.values from column t
-  value_made (Add operand) f = ap₂ plus (value_in column k) (operand-of here w.values from columns value_in operand f)
-  value_made (Sub operand) f = ap₂ minus (value_in column k) (operand-of here w.values from columns value_in operand f)
-  value_made (Cut digits) f = ap (cut digits) (value_in column k)
-  value_made (Band width) f = ap (band width) (value_in column k)
+  label-made : (word : ℕ) → well_formed word ≡ true → label_at word transform ≡ after_t word (transform_code transform) (digits_taken transform)
+  unfolding transform_answer transformed
+  label-made word wf =
+      rw (wf, o) (left-after word (after_t word (transform_code transform) (digits_taken transform)) (forbids_t word)
+      (λ h. after-T word (transform_code transform) (digits_taken transform) ∙ rw (sym (forbids-T word) ∙ h)))
 
-  pub row-made : (to : ℕ) (value : ℤ) (label : ℕ) → from + columns ≤ to → to + columns < room → room ≤ length w.values → room ≤ length w.labels
-      → value ≡ value_at w.values from column transform → label ≡ after_t (get_or w.labels (from + column) 0) (transform_code transform) (digits_taken transform)
-      → Put to (applied_row column transform (row_from columns (cells_in w) from)).cells w
-      (work (set (moved from to columns w.values) (to + columns) value) (set (moved from to columns w.labels) (to + columns) label))
-  row-made to value label g h vr lr ev el =
-      row.row-made w from columns p q to value label (new_cell transform (cell_at column here) here) g h vr lr
-      (ap₂ cell (value_made transform f ∙ sym ev) (ap (λ (l : ℕ). after_t l (transform_code transform) (digits_taken transform)) (row.label-in w from columns p q column k) ∙ sym el))
+  pub cell-made : (i : ℕ) (row : Row) → Formed columns column row
+      → made_cell (λ number first row. value_at first row transform) (λ word. label_at word transform) column i row ≡ new_of column transform i row
+  cell-made i row f = ap₂ cell (value-made i row f) (label-made (cell_at column row).label f.label)

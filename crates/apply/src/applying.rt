@@ -5,10 +5,9 @@ ghost use Rattle.plan.specs.Supply.{Supply};
 ghost use Rattle.plan.specs.declared.Step.TheVariants.{Apply};
 ghost use Rattle.apply.specs.promises.Fits.{apply_fits};
 
-use crate::making::make_table;
-use memory::{Stack, StepAnswer, Stepped};
+use crate::applied::Applied;
+use memory::{Stack, StepError};
 use plan::{Step, Transform};
-use widths::Width;
 
 // Appends to the top table a column of what the transform makes of one of its columns. Labels that are not well-formed, or an
 // operation that does not exist, do not fit.
@@ -18,29 +17,15 @@ pub fn apply(
     stack: Stack,
     column: usize,
     transform: Transform,
-) -> Stepped
+) -> Result<Stack, StepError>
     ensures { (supply : Supply)
         → Unmoved (λ before after. DoneWhere (apply_fits column transform supply before stack) (Apply column transform) supply before stack result after)
         (work values.old labels.old) (work values.new labels.new) }
 {
     let step = Step::Apply { column, transform };
-    let Width::Columns(columns) = memory::fit(values.len(), labels.len(), stack, step) else {
-        return Stepped {
-            answer: StepAnswer::DoesNotFit,
-            stack: stack,
-        };
-    };
+    let columns = memory::fit(values.len(), labels.len(), stack, step)?;
     let top = memory::live_table(stack, 0);
-    let answer = apply_refusal::refusal(labels, top, column, transform);
-    let StepAnswer::Made = answer else {
-        return Stepped {
-            answer: answer,
-            stack: stack,
-        };
-    };
-    make_table(values, labels, top, column, transform);
-    Stepped {
-        answer: StepAnswer::Made,
-        stack: memory::with_table(stack, top.slot, columns, top.rows),
-    }
+    apply_refusal::refusal(labels, top, column, transform)?;
+    extension::extend(values, labels, top, column, &Applied { transform });
+    Ok(memory::with_table(stack, top.slot, columns, top.rows))
 }

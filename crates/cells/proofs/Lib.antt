@@ -3,7 +3,6 @@ pub mod CellLaws
 pub mod Columns
 pub mod Filled
 pub mod LabelledTables
-pub mod Leaves
 pub mod Masks
 pub mod Parts
 pub mod RowReads

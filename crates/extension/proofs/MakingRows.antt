@@ -9,7 +9,7 @@ use native.Mathlib.Numerals.{add-one}
 use native.Mathlib.Omega.{arith}
 use lib.Dec.{leb, ltb}
 use lib.ListN.{length, take, drop, length-drop}
-use borrow.Author.Tests.{leb-true, ltb-true}
+use borrow.Author.Tests.{leb-true, ltb-true, le-leb, lt-ltb}
 use Rattle.cells.specs.promises.Cells.{bare_rows, Wide, row_from}
 use Rattle.cells.specs.promises.Search.{table_within}
 use Rattle.cells.specs.promises.Work.{Work, cells_in, room, Kept}
@@ -19,7 +19,7 @@ use Rattle.memory.specs.promises.Stack.{last_slot, rows_in, Inside, RowsAt}
 use Rattle.plan.specs.Table.{Each, Cell, Row, flat}
 use Rattle.extension.specs.promises.Rows.{extended, extended_from}
 use Rattle.extension.specs.promises.Extending.{extends}
-use Rattle.cells.proofs.CellLaws.{moved_in, kept-none, kept_then}
+use Rattle.cells.proofs.CellLaws.{moved_in, kept-none, kept_then, le-within}
 use Rattle.cells.proofs.RowReads.{row_of, row-cells, flat_append, flat-length}
 use Rattle.cells.proofs.Rows.{rows-wide, rows-more, rows-length}
 use Rattle.cells.proofs.Searching.{within-table}
@@ -48,6 +48,17 @@ extendable top column values labels e =
       narrow = omega (arith, ltb-true top.columns 8 c.1);
       has-column = ltb-true column top.columns d.1;
     }
+
+pub extends-is : {top : LiveTable} {column values labels : ℕ} → Inside top values labels → top.columns + 1 ≤ 8 → column < top.columns → extends top column values labels ≡ true
+extends-is {top} {column} {values} {labels} r narrow h = rw (
+  le-leb top.rows 256 r.few-rows,
+  le-leb top.columns 8 r.few-columns,
+  le-within top.at (top.rows * top.columns) last_slot r.below,
+  lt-ltb column top.columns h,
+  lt-ltb top.columns 8 (omega arith),
+  le-leb room values r.values-room,
+  le-leb room labels r.labels-room,
+)
 
 -- where a row of the table stands, and where the row made of it
 abbrev pub from_of : LiveTable → ℕ → ℕ

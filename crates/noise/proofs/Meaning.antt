@@ -2,21 +2,23 @@
 use Prim.Native.Nat.{ℕ, ◌+◌, ◌≤◌, ◌<◌}
 use mathlib.Core.Path.{◌≡◌, refl, sym, ap, ◌∙◌}
 use mathlib.Core.Bool.{Bool, true, false, cond, and-eq-true_iff}
-use mathlib.Core.List.{List, [], ◌∷◌, map}
+use mathlib.Core.List.{List, map}
 use lib.Dec.{leb}
-use lib.ListN.{length}
+use lib.IntN.{pos}
+use lib.ListN.{length, get_or}
 use borrow.Author.Tests.{leb-true, ltb-true, lt-ltb}
 use Rattle.cells.specs.promises.Labelled.{column_formed, column_formed_at}
 use Rattle.cells.specs.promises.Search.{says, unfit}
 use Rattle.cells.specs.promises.Work.{Work, Memory, mark_room}
 use Rattle.live_tables.specs.declared.LiveTable.{LiveTable}
 use Rattle.live_tables.specs.declared.Stack.{Stack}
-use Rattle.memory.specs.declared.StepAnswer.{StepAnswer}
-use Rattle.memory.specs.declared.StepAnswer.TheVariants.{Made}
+use Rattle.std.specs.Prelude.{Ok, Err}
+use Rattle.memory.specs.declared.StepError.{StepError}
 use Rattle.memory.specs.promises.Stack.{Ready, stack_in, widths_to, with_table, live_table, rows_in, marked_in, labels_in, Inside, MarksInside, RowsAt}
-use Rattle.memory.specs.promises.Steps.{step_says, verdict, fits, fits_in, DoneWhere}
+use Rattle.memory.specs.promises.Steps.{error_says, verdict, fits, fits_in, DoneWhere}
 use Rattle.noise.specs.promises.Fits.{noise_fits}
-use Rattle.noise.specs.promises.Making.{rows_made}
+use Rattle.noise.specs.promises.Making.{label_at}
+use Rattle.noise_value.specs.Noise.{noisy}
 use Rattle.noise_refusal.specs.promises.Refusals.{noise_says}
 use Rattle.plan.specs.Noise.{check_noise, with_noise}
 use Rattle.plan.specs.Steps.{check, make, too_many}
@@ -27,15 +29,14 @@ use Rattle.plan.specs.Widths.{enough_tables, columns_exist, made_columns}
 use Rattle.plan.specs.declared.Step.{Step}
 use Rattle.plan.specs.declared.Step.TheVariants.{Noise}
 use Rattle.extension.proofs.Ends.{extension-done}
-use Rattle.extension.proofs.Rows.{extended_from}
+use Rattle.extension.proofs.LabelledRows.{Formed, rows-formed}
+use Rattle.extension.proofs.Rows.{extended-same}
+use Rattle.extension.specs.promises.Extending.{rows_made}
+use Rattle.extension.specs.promises.Rows.{made_cell, extended_from}
 use Rattle.memory.proofs.Finish.{answered-done, fine-parts, or_nothing}
 use Rattle.memory.proofs.FormedTables.{formed-table}
-use Rattle.memory.proofs.LiveTables.{fits-parts, Stands, stands, inside, marks-inside, marked-count, table-within, grid-is, stack_top, top-width}
-use Rattle.memory.specs.contracts.StepAnswer.{the_type}
-use Rattle.noise.proofs.RowMade.{new_of, noisy-is}
-use Rattle.plan.proofs.SenseNoise.{draws-enough}
-use denote.Enum.Declared.{tag_of}
-use types.Run.{OneOf}
+use Rattle.memory.proofs.LiveTables.{fits-parts, Stands, stands, inside, marks-inside, table-within, grid-is, stack_top, top-width}
+use Rattle.noise.proofs.RowMade.{new_of, noisy-is, cell-made}
 
 -- what a NOISE that fits finds
 pub record NoiseFits (column : ℕ) (values labels : ℕ) (stack : Stack) (table : LiveTable) (width : ℕ) : Type 0 where
@@ -102,26 +103,20 @@ module _ (column : ℕ) where
     made-is = ap (make step supply) (stack_top m f.here) ∙ ap (λ (l : List Row). record { columns = table.columns + 1; rows = l }) (noisy-is column supply.draws 0 (marked_in m table))
 
     -- the labels refuse it, or are none
-    pub refused-noise : (answer : StepAnswer) → OneOf (1 ∷ 2 ∷ []) (tag_of the_type answer) → step_says answer ≡ noise_says labels table column left
-        → DoneWhere (noise_fits column supply m stack) step supply m stack (record { answer = answer; stack = stack }) m
-    refused-noise answer k e = answered-done step supply m stack answer k verdict-is (e ∙ ap (λ (b : Bool). cond b (says (check_noise column left (labels_in labels table))) unfit) (sym fits-is))
+    pub refused-noise : (wrong : StepError) → error_says wrong ≡ noise_says labels table column left
+        → DoneWhere (noise_fits column supply m stack) step supply m stack (Err wrong) m
+    refused-noise wrong e = answered-done step supply m stack wrong verdict-is (e ∙ ap (λ (b : Bool). cond b (says (check_noise column left (labels_in labels table))) unfit) (sym fits-is))
 
-    module _ (e : says fine ≡ noise_says labels table column left) where
-      -- the labels in the column are well-formed, and there is a draw for each row
-      pub formed-is : column_formed column (labels_in labels table) ≡ true
-      formed-is = (formed-table labels table column (fine-parts _ e).0).formed
-
-      pub drawn : table.rows ≤ left
-      drawn =
-          let count : length (top (stack_in m stack)).rows ≡ table.rows = ap (λ (s : List Table). length (top s).rows) (stack_top m f.here) ∙ marked-count m f.inside_is marked in
-          rw count at (draws-enough step left (stack_in m stack) (check-is ∙ (fine-parts (column_formed_at labels table.at table.rows table.columns column) e).1))
-
-      pub made-noise : {after : Work} → RowsAt table.at (rows_made table column supply.draws m.work) m.work after
-          → DoneWhere (noise_fits column supply m stack) step supply m stack (record { answer = Made; stack = with_table stack table.slot width table.rows }) (record { work = after; marks = m.marks })
-      made-noise rows =
-          let p = fine-parts _ e in
-          rw f.width_is (extension-done (new_of column supply.draws) (λ i row. refl) step supply m stack f.is-ready f.here f.inside_is room
-          (fits-is ∙ p.0) refl (verdict-is ∙ p.1) f.narrow made-is (rw (noisy-is column supply.draws 0 (rows_in m.work table)) at rows))
+    pub made-noise : says fine ≡ noise_says labels table column left → {after : Work}
+        → RowsAt table.at (rows_made (λ number first row. noisy first (get_or supply.draws number (pos 0))) (λ word. label_at word) table column m.work) m.work after
+        → DoneWhere (noise_fits column supply m stack) step supply m stack (Ok (with_table stack table.slot width table.rows)) (record { work = after; marks = m.marks })
+    made-noise e rows =
+        let p = fine-parts _ e in
+        let formed = (formed-table labels table column p.0).formed in
+        let same = extended-same (Formed table.columns column) (made_cell (λ number first row. noisy first (get_or supply.draws number (pos 0))) (λ word. label_at word) column) (new_of column supply.draws)
+        (cell-made table.columns column supply.draws) 0 (rows_in m.work table) (rows-formed m.work table f.inside_is column formed) in
+        rw f.width_is (extension-done (new_of column supply.draws) (λ i row. refl) step supply m stack f.is-ready f.here f.inside_is room
+        (fits-is ∙ p.0) refl (verdict-is ∙ p.1) f.narrow made-is (rw same at rows))
 
 -- arguments that do not fit NOISE
 pub misfit-first : (column : ℕ) (supply : Supply) (m : Memory) (stack : Stack) → fits_in (Noise column) supply m stack ≡ false → noise_fits column supply m stack ≡ false

@@ -7,10 +7,9 @@ ghost use Rattle.plan.specs.Table.{Table};
 ghost use Rattle.plan.specs.declared.Step.TheVariants.{Noise};
 ghost use Rattle.noise.specs.promises.Fits.{noise_fits};
 
-use crate::making::make_table;
-use memory::{Stack, StepAnswer, Stepped};
+use crate::noisy::Noisy;
+use memory::{Stack, StepError};
 use plan::Step;
-use widths::Width;
 
 // Appends to the top table a column of what the draws make of one of its columns, the first draw for the first row. Labels that are not
 // well-formed do not fit.
@@ -20,30 +19,16 @@ pub fn noise(
     labels: &mut [u32],
     stack: Stack,
     column: usize,
-) -> Stepped
+) -> Result<Stack, StepError>
     ensures { (tables : List Table)
         → Unmoved (λ before after. DoneWhere (noise_fits column (supplied tables draws.now) before stack) (Noise column)
         (supplied tables draws.now) before stack result after)
         (work values.old labels.old) (work values.new labels.new) }
 {
     let step = Step::Noise { column };
-    let Width::Columns(columns) = memory::fit(values.len(), labels.len(), stack, step) else {
-        return Stepped {
-            answer: StepAnswer::DoesNotFit,
-            stack: stack,
-        };
-    };
+    let columns = memory::fit(values.len(), labels.len(), stack, step)?;
     let top = memory::live_table(stack, 0);
-    let answer = noise_refusal::refusal(labels, top, column, draws.len());
-    let StepAnswer::Made = answer else {
-        return Stepped {
-            answer: answer,
-            stack: stack,
-        };
-    };
-    make_table(draws, values, labels, top, column);
-    Stepped {
-        answer: StepAnswer::Made,
-        stack: memory::with_table(stack, top.slot, columns, top.rows),
-    }
+    noise_refusal::refusal(labels, top, column, draws.len())?;
+    extension::extend(values, labels, top, column, &Noisy { draws });
+    Ok(memory::with_table(stack, top.slot, columns, top.rows))
 }

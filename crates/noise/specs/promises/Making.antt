@@ -1,10 +1,7 @@
--- The rows that NOISE makes of a table in work memory.
-use Rattle.std.specs.Prelude.{ℕ, List, ℤ}
-use Rattle.cells.specs.promises.Work.{Work}
-use Rattle.live_tables.specs.declared.LiveTable.{LiveTable}
-use Rattle.memory.specs.promises.Stack.{rows_in}
-use Rattle.plan.specs.Noise.{noisy_rows}
-use Rattle.plan.specs.Table.{Row}
+-- The label of the new cell that NOISE makes, in work memory. Its value is `noisy`, of the row's draw.
+use Rattle.std.specs.Prelude.{ℕ}
+use Rattle.extension.specs.promises.Labels.{label_left}
+use Rattle.label_discharge.specs.Discharge.{noise_answer}
 
-abbrev pub rows_made : LiveTable → ℕ → List ℤ → Work → List Row
-rows_made top column draws work = noisy_rows column draws (rows_in work top)
+abbrev pub label_at : ℕ → ℕ
+label_at word = label_left word (noise_answer word)
