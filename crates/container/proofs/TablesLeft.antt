@@ -4,7 +4,6 @@ use mathlib.Core.Path.{◌≡◌, refl, sym, ap, ◌∙◌}
 use mathlib.Core.List.{List, [], ◌∷◌, ◌++◌}
 use native.Mathlib.Nat.{add-zero, add-suc, suc-add}
 use native.Mathlib.Numerals.{add-one}
-use lib.ListN.{length, take}
 use Rattle.container.specs.Check.{accepted, check_tables, table_widths}
 use Rattle.input.specs.Verdict.{and_then}
 use Rattle.layout.specs.Layout.{offset_of, part_of}
@@ -33,11 +32,3 @@ widths-more bytes part zero = rw (add-zero part)
 widths-more bytes part (suc n) =
     ap (λ (l : List ℕ). columns_of (part_of bytes part) ∷ l)
     (rw (add-suc part n ∙ sym (suc-add part n)) (widths-more bytes (suc part) n))
-
-widths-length : (bytes : List ℕ) (part n : ℕ) → length (table_widths bytes part n) ≡ n
-widths-length bytes part zero = refl
-widths-length bytes part (suc n) = ap suc (widths-length bytes (suc part) n)
-
--- as many widths as tables are there
-pub all_there : (bytes : List ℕ) (part n : ℕ) (widths : List ℕ) → take n widths ≡ table_widths bytes part n → length (take n widths) ≡ n
-all_there bytes part n widths e = ap length e ∙ widths-length bytes part n
