@@ -3,11 +3,16 @@ use Prim.Native.Nat.{ℕ, zero, suc, ◌+◌, ◌≤◌, ◌<◌}
 use mathlib.Core.Path.{◌≡◌, refl, sym, ap, ◌∙◌}
 use mathlib.Core.Bool.{Bool, true, false, cond}
 use mathlib.Core.List.{List, [], ◌∷◌}
+use native.Mathlib.Nat.{add_comm}
+use native.Mathlib.Numerals.{add-one}
 use native.Mathlib.Omega.{arith}
 use lib.Dec.{eqb}
 use lib.ListN.{length, get_or, drop, length-drop}
 use lib.Seq.{get_or-drop}
-use borrow.Author.Tests.{eqb-true, eq-eqb, ne_eqb}
+use borrow.Author.Tests.{lt-ltb, eqb-true, eq-eqb, ne_eqb}
+use Rattle.std.specs.List.{position, position_or_len}
+use Rattle.std.specs.Prelude.{unwrap_or}
+use Rattle.std.proofs.lemmas.List.Recursion.{is_position_or_len}
 use Rattle.mark_numbers.specs.promises.Numbers.{first_same, first_of}
 
 module _ (mark : ℕ) where
@@ -27,6 +32,13 @@ module _ (mark : ℕ) where
       go true t s = (omega arith, eqb-true first mark t)
       go false t s = (omega arith, s.1)
 
+  -- and the search that compares each mark finds it
+  searched : (marks : List ℕ) (i default : ℕ) → i < length marks → get_or marks i 0 ≡ mark → unwrap_or (position (λ other. eqb other mark) marks) default ≡ first_same mark marks
+  searched marks i default h e =
+      let place : position_or_len (λ other. eqb other mark) marks ≡ first_same mark marks
+      = sym (is_position_or_len (first_same mark) (λ other. eqb other mark) refl (λ first rest. rw (add_comm 1 (first_same mark rest), add-one (first_same mark rest))) marks) in
+      rw (place, lt-ltb (first_same mark marks) (length marks) (omega (arith, (same-upto marks i h e).0)))
+
 -- the rows whose marks stand from a place on, up to one
 module _ (marks : List ℕ) (at row : ℕ) (h : at + row < length marks) where
   abbrev mark : ℕ → ℕ
@@ -40,6 +52,9 @@ module _ (marks : List ℕ) (at row : ℕ) (h : at + row < length marks) where
 
   pub first-mark : mark (first_of marks at row) ≡ mark row
   first-mark = sym (get_or-drop at marks (first_of marks at row) 0) ∙ upto.1
+
+  pub first_placed : unwrap_or (position (λ other. eqb other (mark row)) (drop at marks)) row ≡ first_of marks at row
+  first_placed = searched (mark row) (drop at marks) row row (simp length-drop (omega arith)) (get_or-drop at marks row 0)
 
   -- the first row with a mark is the first with its own
   pub first-own : first_of marks at (first_of marks at row) ≡ first_of marks at row
