@@ -19,10 +19,7 @@ pub fn has_room(values: usize, labels: usize, marks: usize, trace: usize) -> boo
 pub fn write_step(labels: &[u32], trace: &mut [u32], stack: Stack, index: usize, step: Step) -> bool
     ensures { LineWritten labels.now trace.old stack index step result trace.new }
 {
-    if !memory::ready(ROOM, labels.len(), stack) {
-        return false;
-    }
-    if stack.depth == 0 {
+    if !memory::ready(ROOM, labels.len(), stack) || stack.depth == 0 {
         return false;
     }
     let table = memory::live_table(stack, 0);

@@ -1,5 +1,5 @@
 -- `walk_slices::write_step` meets its contract. Assumes nothing.
-use mathlib.Core.Path.{◌≡◌, refl, sym, ap, ◌∙◌}
+use mathlib.Core.Path.{◌≡◌, sym, ap, ◌∙◌}
 use mathlib.Core.Bool.{true, cond}
 use native.Mathlib.Omega.{arith}
 use lib.ListN.{length}
@@ -12,30 +12,16 @@ use Rattle.memory.proofs.LiveTables.{Stands, stands, inside}
 use Rattle.memory.proofs.Stacks.{is-ready}
 use Rattle.walk_slices.proofs.LineMeaning.{longer, line-is}
 use Rattle.walk_slices.proofs.write_step.Goals as goal
-use Rattle.walk_slices.proofs.write_step.Goals.{After-live_table-table, Else-not-ready}
-
--- the stack fits
-fit : (c : Else-not-ready) → let a = c.args in ready room (length a.labels.now) a.stack ≡ true
-fit c = sym c.ready.ensures ∙ c.if-not-ready.false
-
--- the stack fits
-fit-at-After-live_table-table : (c : After-live_table-table) → let a = c.args in ready room (length a.labels.now) a.stack ≡ true
-fit-at-After-live_table-table c = sym c.ready.ensures ∙ c.if-not-ready.false
+use Rattle.walk_slices.proofs.write_step.Goals.{After-live_table-table}
 
 fits : (c : After-live_table-table) → ready room (length c.args.labels.now) c.args.stack ≡ true
-fits c = fit-at-After-live_table-table c
+fits c = sym c.ready.ensures ∙ c.if-not-ready.false
 
 is : (c : After-live_table-table) → Ready room (length c.args.labels.now) c.args.stack
 is c = is-ready _ _ _ (fits c)
 
 live : (c : After-live_table-table) → Stands c.args.stack 0 c.live_table-table.result
 live c = stands c.args.stack 0 c.live_table-table.result (is c).depth (omega (arith, c.if-stack-eq0.false)) c.live_table-table.ensures
-
-pub returns-then-not-ready : goal.returns-then-not-ready
-returns-then-not-ready c = record { told = rw (sym c.ready.ensures ∙ c.if-not-ready.true); trace-is = λ values marks h k. refl }
-
-pub returns-then-stack-eq0 : goal.returns-then-stack-eq0
-returns-then-stack-eq0 c = record { told = rw (fit (goal.at.returns-then-stack-eq0 c).Else-not-ready, c.if-stack-eq0.true); trace-is = λ values marks h k. refl }
 
 pub overflow_cast-table : goal.overflow_cast-table
 overflow_cast-table c = omega (arith, (inside (live (goal.at.overflow_cast-table c).After-live_table-table) (is (goal.at.overflow_cast-table c).After-live_table-table)).few-rows)
