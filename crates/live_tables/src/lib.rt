@@ -21,8 +21,9 @@ pub const LAST_MARKS: usize = 768;
 
 pub const MARK_ROOM: usize = 1024;
 
-// The live tables: how many there are, and the rows and columns of each, the first pushed first.
-#[derive(Clone, Copy)]
+// The live tables: how many there are, and the rows and columns of each, the first pushed first. The struct is plain, with no
+// invariant: `ready` and each step answer for any stack that they are handed, one of four tables too (must-fail/four_tables.edit).
+#[derive(Clone, Copy, PartialEq, Eq, Debug)]
 pub struct Stack {
     pub depth: usize,
     pub rows: [usize; 3],
@@ -30,7 +31,7 @@ pub struct Stack {
 }
 
 // A live table: its slot, the places at which that and its marks begin, and its rows and columns.
-#[derive(Clone, Copy)]
+#[derive(Clone, Copy, PartialEq, Eq, Debug)]
 pub struct LiveTable {
     pub slot: usize,
     pub at: usize,
