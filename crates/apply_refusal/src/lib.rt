@@ -2,7 +2,7 @@
 // row after 32."
 #![tactic(auto)]
 
-ghost use Rattle.std.specs.Prelude.{◌≡◌, true, ◌+◌, ◌≤◌, ◌<◌, length, get_or, take, drop};
+ghost use Rattle.std.specs.Prelude.{◌≡◌, true, ◌<◌, length, get_or};
 ghost use Rattle.cells.specs.promises.Labelled.{column_formed_at};
 ghost use Rattle.cells.specs.promises.Search.{says};
 ghost use Rattle.operations.specs.promises.Operations.{operation_fits};
@@ -50,26 +50,24 @@ fn rows_refusal(
 {
     for row in 0..table.rows {
         let from = table.at + row * table.columns;
-        row_refusal(labels, from, table.columns, row, column, transform)?;
+        row_refusal(&labels[from..from + table.columns], row, column, transform)?;
     }
     Ok(())
 }
 
-// The refusal of one row, whose first label stands at `from`: by its first operand, and then by its second.
+// The refusal of the row with these labels: by its first operand, and then by its second.
 fn row_refusal(
     labels: &[u32],
-    from: usize,
-    columns: usize,
     row: usize,
     column: usize,
     transform: Transform,
 ) -> Result<(), StepError>
-    requires column_lt_columns { (column < columns) × (from + columns ≤ length labels.now) }
-    requires column_value { (well_formed (get_or labels.now (from + column) 0) ≡ true) × (operation_fits transform ≡ true) }
-    ensures { step_says result ≡ says (apply_row column transform row (take columns (drop from labels.now))) }
+    requires has_column { column < length labels.now }
+    requires fits { (well_formed (get_or labels.now column 0) ≡ true) × (operation_fits transform ≡ true) }
+    ensures { step_says result ≡ says (apply_row column transform row labels.now) }
 {
-    first_refusal(labels[from + column], row, column, transform)?;
-    second_refusal(labels, from, columns, row, transform)
+    first_refusal(labels[column], row, column, transform)?;
+    second_refusal(labels, row, transform)
 }
 
 // 32 in one row.
@@ -98,36 +96,20 @@ fn forbidden(word: u32, transform: Transform) -> bool
 }
 
 // 33 in one row.
-fn second_refusal(
-    labels: &[u32],
-    from: usize,
-    columns: usize,
-    row: usize,
-    transform: Transform,
-) -> Result<(), StepError>
-    requires { from + columns ≤ length labels.now }
-    ensures { step_says result ≡ says (second_clear transform row (take columns (drop from labels.now))) }
+fn second_refusal(labels: &[u32], row: usize, transform: Transform) -> Result<(), StepError>
+    ensures { step_says result ≡ says (second_clear transform row labels.now) }
 {
     match transform {
-        Transform::Add(operand) | Transform::Sub(operand) => {
-            operand_refusal(labels, from, columns, row, operand)
-        }
+        Transform::Add(operand) | Transform::Sub(operand) => operand_refusal(labels, row, operand),
         Transform::Cut(_) | Transform::Band(_) => Ok(()),
     }
 }
 
-fn operand_refusal(
-    labels: &[u32],
-    from: usize,
-    columns: usize,
-    row: usize,
-    operand: Operand,
-) -> Result<(), StepError>
-    requires { from + columns ≤ length labels.now }
-    ensures { step_says result ≡ says (operand_clear operand row (take columns (drop from labels.now))) }
+fn operand_refusal(labels: &[u32], row: usize, operand: Operand) -> Result<(), StepError>
+    ensures { step_says result ≡ says (operand_clear operand row labels.now) }
 {
     match operand {
-        Operand::Column(column) if column < columns && labels[from + column] != 0 => {
+        Operand::Column(column) if column < labels.len() && labels[column] != 0 => {
             Err(StepError::Refused(Refusal::OperandNotClear(At { row, column })))
         }
         Operand::Constant(_) | Operand::Column(_) => Ok(()),

@@ -1,7 +1,7 @@
 // What a step that appends a column makes of a row.
 ghost use Rattle.std.specs.Prelude.{◌≡◌, ℕ, ℤ, List};
 
-// The new cell of a row, made of one of its columns.
+// The new cell of a row, made of one of its columns. No closure, whose call would ask for a `requires`: no open function has one (README.md).
 pub trait NewCell {
     // by the row's number, the value in the column and the row's values
     ghost new_value: { Self → ℕ → ℤ → List ℤ → ℤ };

@@ -1,21 +1,34 @@
 -- `apply_refusal::rows_refusal` meets its contract. The loop: the verdict is that of the rows that are left. Assumes nothing.
-use Prim.Native.Nat.{◌+◌, ◌*◌}
+use Prim.Native.Nat.{◌+◌, ◌-◌, ◌*◌}
 use mathlib.Core.Path.{◌≡◌, sym, ap, ◌∙◌}
 use native.Mathlib.Omega.{arith}
+use lib.ListN.{length-take, length-drop}
 use borrow.Author.Rules.{rules}
 use Rattle.std.specs.Prelude.{Err}
 use Rattle.cells.specs.promises.Search.{says}
 use Rattle.memory.specs.promises.Steps.{step_says}
-use Rattle.plan.specs.Apply.{check_apply}
+use Rattle.plan.specs.Apply.{apply_row, check_apply}
 use Rattle.memory.proofs.Finish.{error-stands, goes_on}
-use Rattle.memory.proofs.RefusedRows.{row_within, row-formed, row-left, row-passed, rows_end}
+use Rattle.memory.proofs.RefusedRows.{row_at, row_within, row_label, row-formed, row-left, row-passed, rows_end}
 use Rattle.apply_refusal.proofs.rows_refusal.Goals as goal
+use Rattle.apply_refusal.proofs.rows_refusal.Goals.{After-row_refusal}
 
 pub row_refusal-requires : goal.row_refusal-requires
 row_refusal-requires c =
+    let a = c.args in
     let i = c.loop-row.invariant in
-    let within = row_within i c.loop-row-test.true in
-    record { column_lt_columns = (i.walking.has-column, within.1); column_value = (row-formed i c.loop-row-test.true, c.requires.transform_value) }
+    let t = c.loop-row-test.true in
+    let from = a.table.at + c.loop-row.row * a.table.columns in
+    let part : (from + a.table.columns) - from ≡ a.table.columns = omega arith in
+    rw part (record { has_column = simp (length-take, length-drop) (omega (arith, row_within i t, i.walking.has-column)); fits = (rw (row_label i t) (row-formed i t), c.requires.transform_value) })
+
+row-says : (c : After-row_refusal) → let a = c.args in
+    step_says c.row_refusal.result ≡ says (apply_row a.column a.transform c.loop-row.row (row_at a.labels.now a.table (a.table.at + c.loop-row.row * a.table.columns)))
+row-says c =
+    let a = c.args in
+    let from = a.table.at + c.loop-row.row * a.table.columns in
+    let part : (from + a.table.columns) - from ≡ a.table.columns = omega arith in
+    rw part at c.row_refusal.ensures
 
 pub returns-in_err-row_refusal : goal.returns-in_err-row_refusal
 unfolding check_apply
@@ -23,14 +36,15 @@ returns-in_err-row_refusal c =
     let wrong = c.in_err-row_refusal.field-0.0 in
     let same : c.from_residual.result ≡ Err wrong = search rules in
     rw same
-    (error-stands wrong _ (sym (ap step_says c.in_err-row_refusal.was) ∙ c.row_refusal.ensures)
+    (error-stands wrong _ (sym (ap step_says c.in_err-row_refusal.was) ∙ row-says (goal.at.returns-in_err-row_refusal c).After-row_refusal)
     ∙ ap says (sym (row-left c.loop-row.invariant c.loop-row-test.true)))
 
 pub loop-row-preserved : goal.loop-row-preserved
 loop-row-preserved c =
     let a = c.args in
     let next : a.table.at + (c.loop-row.row + 1) * a.table.columns ≡ a.table.at + c.loop-row.row * a.table.columns + a.table.columns = omega arith in
-    rw next (row-passed c.loop-row.invariant c.loop-row-test.true (goes_on _ (sym (ap step_says c.in_ok-row_refusal.was) ∙ c.row_refusal.ensures)))
+    rw next (row-passed c.loop-row.invariant c.loop-row-test.true
+    (goes_on _ (sym (ap step_says c.in_ok-row_refusal.was) ∙ row-says (goal.at.loop-row-preserved c).After-row_refusal)))
 
 pub returns : goal.returns
 unfolding check_apply
