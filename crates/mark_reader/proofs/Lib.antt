@@ -1,3 +1,2 @@
--- What the proofs share. `Marks` is for the proofs of other crates to cite.
-mod Reading
+-- What the proofs share, and the proofs of other crates cite.
 pub mod Marks

@@ -1,17 +1,20 @@
 -- The marks of a table part's rows, one by one. Assumes nothing.
 use Prim.Native.Nat.{ℕ, zero, suc, ◌+◌, ◌-◌, ◌*◌, ◌≤◌, ◌<◌}
 use mathlib.Core.Path.{◌≡◌, refl, sym, ap, ◌∙◌}
-use mathlib.Core.List.{List, [], ◌∷◌, ◌++◌}
+use mathlib.Core.List.{List, [], ◌∷◌, ◌++◌, append_assoc}
 use native.Mathlib.Nat.{add-zero, add-suc, suc-add, zero-add, add_comm, zero-mul, suc-mul}
 use native.Mathlib.Numerals.{add-one}
 use native.Mathlib.Omega.{arith}
-use lib.ListN.{length, get_or, drop, set}
-use lib.Seq.{take_at, drop_at}
-use Rattle.cells.specs.promises.Written.{Written}
-use Rattle.cells.proofs.Written.{one_written}
+use lib.Dec.{leb}
+use lib.ListN.{length, get_or, take, drop, set, length-drop}
+use lib.Seq.{drop-drop, length-take-le, take_at, drop_at, set_at, drop-cons}
+use borrow.Rule.Slice.PartMut.{put_mid}
+use Rattle.std.proofs.lemmas.Grind.{common_steps}
+use Rattle.cells.specs.promises.Cells.{within}
+use Rattle.mark_reader.specs.promises.Marks.{first_marks, marks_after}
 use Rattle.plan.specs.Sheets.{mark_of, marks_from}
 use Rattle.plan.specs.Table.{Cell, blank}
-use Rattle.table_part.specs.TablePart.{value_of, label_of, cells_from}
+use Rattle.table_part.specs.TablePart.{columns_of, sheets_of, row_count, value_of, label_of, cells_from, table_of}
 use Rattle.table_part.proofs.Laws.{cells-length}
 use Rattle.value.specs.Pattern.{magnitude_of}
 
@@ -63,10 +66,30 @@ module _ (part : List ℕ) where
         marks-first row cell (suc n) ∙ ap (λ (l : List ℕ). mark row cell ∷ l) (marks-last (suc row) (cell + columns) n)
         ∙ rw (r, p) (ap (λ (l : List ℕ). l ++ (mark (suc row + n) (cell + columns + n * columns) ∷ [])) (sym (marks-first row cell n)))
 
-    -- one row more is written
-    pub one-mark : {before after : List ℕ} {at : ℕ} (row x : ℕ) → at + row < length before → x ≡ mark row (row * columns)
-        → Written before at (marks 0 0 row) after → Written before at (marks 0 0 (row + 1)) (set after (at + row) x)
-    one-mark {before} {after} {at} row x h e w =
-        let long : length (marks 0 0 row) ≡ row = marks-length sheets columns table 0 row (cells_from part 0 (row * columns)) in
-        let more : marks 0 0 (suc row) ≡ marks 0 0 row ++ (x ∷ []) = marks-last 0 0 row ∙ rw (zero-add row, zero-add (row * columns), e) in
-        rw (add-one row, more) (rw long at (one_written w x (omega (arith, long))))
+  -- one row more is written
+  pub one_mark : (table row x : ℕ) (old now : List ℕ) → row < length old → now ≡ first_marks part table row ++ drop row old
+      → x ≡ mark_of (sheets_of part) table row (cells_from part (row * columns_of part) (columns_of part))
+      → set now row x ≡ first_marks part table (row + 1) ++ drop (row + 1) old
+  one_mark table row x old now h s e =
+      let sheets = sheets_of part in
+      let columns = columns_of part in
+      let done = first_marks part table row in
+      let left = drop (suc row) old in
+      let long : length done ≡ row = marks-length sheets columns table 0 row (cells_from part 0 (row * columns)) in
+      let more : first_marks part table (suc row) ≡ done ++ (x ∷ []) = marks-last sheets columns table 0 0 row ∙ rw (zero-add row, zero-add (row * columns), e) in
+      ap (λ (l : List ℕ). set l row x) (s ∙ ap (λ (l : List ℕ). done ++ l) (drop-cons old row 0 h)) ∙ set_at done (get_or old row 0) left x row long
+      ∙ sym (append_assoc done (x ∷ []) left) ∙ rw (add-one row) (ap (λ (l : List ℕ). l ++ left) (sym more))
+
+  -- what stands around the marks stays
+  pub marks_put : (table at rows : ℕ) (old new : List ℕ) → rows ≡ row_count part → at + rows ≤ length old → new ≡ first_marks part table (length (take (at + rows - at) (drop at old)))
+      → put_mid at (at + rows - at) old new ≡ marks_after part table old at
+  unfolding table_of
+  marks_put table at rows old new r h e =
+      let k : at + rows - at ≡ rows = omega arith in
+      let long : length (take (at + rows - at) (drop at old)) ≡ row_count part = rw k (length-take-le rows (drop at old) (omega (arith, length-drop at old)) ∙ r) in
+      let is : new ≡ first_marks part table (row_count part) = e ∙ ap (first_marks part table) long in
+      rw (k, is, r, drop-drop (row_count part) at old)
+
+-- a range of elements lies within a slice
+pub within_room : (from count n : ℕ) → within from count n ≡ leb (from + count) n
+within_room from count n = grind (arith, common_steps)
