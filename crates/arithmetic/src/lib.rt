@@ -9,7 +9,7 @@ ghost use Rattle.arithmetic.specs.Arithmetic.{plus, minus, cut, band};
 use value::choice::{chosen, folded};
 use value::range::{OVER, both_in_range, in_range, settled};
 
-// The sum of two values.
+// The sum of two values. `minus` differs in the operator alone: over the operator as a parameter the two would be no plainer.
 pub fn plus(a: i64, b: i64) -> i64
     ensures { result ≡ plus a b }
 {

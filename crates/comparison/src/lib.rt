@@ -1,4 +1,5 @@
-// The six comparisons, false where a number is out of range, and the equality of group keys.
+// The six comparisons, false where a number is out of range, and the equality of group keys. Each is one line with its operator: over the operator as a
+// parameter they would be no plainer.
 #![tactic(auto)]
 
 ghost use Rattle.std.specs.Prelude.{◌≡◌};

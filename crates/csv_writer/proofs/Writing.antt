@@ -28,13 +28,6 @@ module _ {A : Type 0} where
         is = u.is ∙ rw (front, ← e, from-written w, longer) (ap (λ (t : List A). take at list ++ t) (sym (append_assoc more done (drop (to + length done) list))));
       }
 
-  -- one more of a list that is copied
-  pub next-put : {list after : List A} (whole : List A) (at i : ℕ) (d : A) → i < length whole → at + i < length list → Written list at (take i whole) after
-      → Written list at (take (i + 1) whole) (set after (at + i) (get_or whole i d))
-  next-put whole at i d h k w =
-      let l : length (take i whole) ≡ i = length-take-le i whole (omega arith) in
-      rw (add-one i, take-suc whole i d h) (rw l at (one_written w (get_or whole i d) (omega (arith, l))))
-
 -- ---- a list written piece by piece from a place on: it stands up to `to`, and what is left of it comes next
 
 pub record Sofar {A : Type 0} (whole list : List A) (at : ℕ) (after : List A) (to : ℕ) (rest : List A) : Type 0 where

@@ -13,7 +13,8 @@ const NEAR_LEAST: i64 = -562_949_953_421_312;
 
 const NEAR_MOST: i64 = 562_949_953_421_311;
 
-// A value plus a draw, which may be any number.
+// A value plus a draw, which may be any number. `arithmetic::plus` tests its second number otherwise: one function for both would ask of its callers that the
+// sum fits, which none that other crates call may.
 pub fn noisy(value: i64, draw: i64) -> i64
     ensures { result ≡ noisy value draw }
 {

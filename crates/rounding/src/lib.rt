@@ -18,7 +18,8 @@ fn floored(total: i64, rows: u32) -> i64
 }
 
 // How far a sum is above the rows times that quotient: the remainder of the folded sum, which counts down from the rows less one where the sum is below
-// zero.
+// zero. `arithmetic::above` has any width for the rows: one function for both would ask of its callers that it is not 0, which none that other crates call
+// may.
 fn remainder(total: i64, rows: u32) -> i64
     requires { 0 < rows }
     ensures { result ≡ pos (distance total rows (floored total rows)) }

@@ -7,7 +7,7 @@ use native.Mathlib.Nat.{div-add-mod, mod-lt, le_refl, le_trans, le_of_lt, le-suc
 use native.Mathlib.Omega.{arith}
 use lib.Dec.{T, leb, ltb, leb→le, le→leb, lt→ltb}
 use lib.IntN.{ℤ, pos, negsuc, nat_abs, neg_ℤ, pred_ℤ, suc_ℤ, ◌+ℤ◌, ◌-ℤ◌, ◌*ℤ◌, neg_ℤ-+ℤ, *ℤ_comm, pred_ℤ-*ℤ}
-use lib.Signed.{mag, le_z, lt_z, non_neg, quot_z, rem_z, shr_z, ◌≤ℤ◌, ◌<ℤ◌}
+use lib.Signed.{mag, le_z, lt_z, quot_z, rem_z, shr_z, ◌≤ℤ◌, ◌<ℤ◌}
 use borrow.Author.Tests.{ltb-true, ltb-false, leb-false, le-ltb, le-leb, lt-leb}
 
 -- a test that holds, as a type
@@ -68,14 +68,6 @@ minus-one-minus (suc m) = rw zero-add
 pub minus-one-negative : (v : ℤ) → lt_z v (pos 0) ≡ true → negsuc 0 -ℤ v ≡ pos (mag v)
 minus-one-negative (pos n) e = absurd (omega (arith, ltb-true n 0 e))
 minus-one-negative (negsuc n) e = rw (le-ltb (suc n) 1 (omega arith)) (ap pos (omega arith))
-
-pub negative-size : (v : ℤ) → lt_z v (pos 0) ≡ true → nat_abs v ≡ suc (mag v)
-negative-size (pos n) e = absurd (omega (arith, ltb-true n 0 e))
-negative-size (negsuc n) e = refl
-
-pub not_negative : (v : ℤ) → lt_z v (pos 0) ≡ false → T (non_neg v)
-not_negative (pos n) e = tt
-not_negative (negsuc n) e = absurd (true≢false e)
 
 -- ---- division
 
