@@ -3,21 +3,19 @@
 // standard output, and the X line to standard error.
 #![tactic(auto)]
 
-use call_numbers::conversion_numbers;
 use std::io;
 
-// One byte more than the limit is read, so that a longer container shows.
 fn main(rt: HostRuntime) -> io::Result<()> {
-    let mut bytes = [0u8; 65537];
-    let length = arguments::read_full(&mut rt.stdin(), &mut bytes)?;
-    let mut new = [0u8; 65537];
-    let mut offsets = [0u32; 8192];
-    let answer = conversion_numbers(conversion::convert(&bytes[..length], &mut new, &mut offsets));
-    if answer[0] != 0 {
-        return refused(&rt, &answer);
+    let bytes = arguments::reader_bytes(rt.alloc(), &mut rt.stdin(), arguments::MOST)?;
+    let mut new = vec![in rt.alloc(); 0u8; bytes.len()]?;
+    let mut offsets = vec![in rt.alloc(); 0u32; 8192]?;
+    match conversion::convert(&bytes, &mut new, &mut offsets) {
+        Ok(count) => {
+            rt.write_all(&new)?;
+            changed(&rt, &offsets, count)
+        }
+        Err(refusal) => eprintln!(rt; "X {} {}", refusal.number(), refusal.place()),
     }
-    rt.write_all(&new[..length])?;
-    changed(&rt, &offsets, answer[1] as usize)
 }
 
 // The first offsets, one a line.
@@ -26,10 +24,4 @@ fn changed(rt: &impl Eprint, offsets: &[u32], count: usize) -> io::Result<()> {
         eprintln!(rt; "{offset}")?;
     }
     Ok(())
-}
-
-// The line of a refusal: its number and its place.
-fn refused(rt: &impl Eprint, answer: &[u64; 2]) -> io::Result<()> {
-    let [number, place] = *answer;
-    eprintln!(rt; "X {number} {place}")
 }
