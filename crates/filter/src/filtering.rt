@@ -77,7 +77,8 @@ fn filter_rows(
     let mut kept = 0;
     for row in 0..top.rows {
         let from = top.at + row * top.columns;
-        if passes(values, from, column, comparison, operand) {
+        let passing = passes(values, from, column, comparison, operand);
+        if passing {
             let to = top.at + kept * top.columns;
             moves::move_cells(values, labels, from, to, top.columns);
             marks[top.marks + kept] = marks[top.marks + row];

@@ -5,7 +5,7 @@ use Rattle.cells.specs.promises.Work.{work, memory_of}
 use Rattle.cells.proofs.CellLaws.{values_moved, labels-moved}
 use Rattle.filter.proofs.FilterLoop.{Stand, values-reach, in-values, in-labels, passed, failed, filter-begins, filter-ends}
 use Rattle.filter.proofs.filtering.filter_rows.Goals as goal
-use Rattle.filter.proofs.filtering.filter_rows.Goals.{Start, else-passes, then-passes}
+use Rattle.filter.proofs.filtering.filter_rows.Goals.{Start, else-passing, then-passing}
 
 -- the table stands within memory
 stand : (c : Start) → let a = c.args in Stand a.top (memory_of a.values.now a.labels.now a.marks.now)
@@ -14,9 +14,9 @@ stand c = record { cells = c.requires.inside.0; marks = c.requires.inside.1 }
 pub loop-row-init : goal.loop-row-init
 loop-row-init c = filter-begins (stand (goal.at.loop-row-init c).Start)
 
-pub passes-requires : goal.passes-requires
-passes-requires c =
-    let reach = values-reach (stand (goal.at.passes-requires c).Start) c.loop-row.invariant c.loop-row-test.true in
+pub passes-passing-requires : goal.passes-passing-requires
+passes-passing-requires c =
+    let reach = values-reach (stand (goal.at.passes-passing-requires c).Start) c.loop-row.invariant c.loop-row-test.true in
     omega (arith, reach, c.requires.column_lt_columns.0)
 
 pub loop-row-preserved : goal.loop-row-preserved
@@ -25,13 +25,13 @@ loop-row-preserved c =
     let i = stand (goal.at.loop-row-preserved c).Start in
     let h = c.loop-row-test.true in
     let w = work c.loop-row.values c.loop-row.labels in
-    let answer = c.passes.ensures in
-    elim c.if-passes.branch [
-      | then-passes m ↦ let moves = m.move_cells.ensures in
+    let answer = c.passes-passing.ensures in
+    elim c.if-passing.branch [
+      | then-passing m ↦ let moves = m.move_cells.ensures in
           let v = values_moved w (in-values i c.loop-row.invariant h) (in-labels i c.loop-row.invariant h) moves.value moves.values_after moves.labels_after in
           let k = labels-moved w (in-values i c.loop-row.invariant h) (in-labels i c.loop-row.invariant h) moves.value moves.values_after moves.labels_after in
-          rw (m.values-is, m.labels-is, m.marks-is, m.kept-is, v, k) (passed a.column a.comparison a.operand i c.loop-row.invariant h c.requires.column_lt_columns.0 c.requires.column_lt_columns.1 answer m.if-passes.true)
-      | else-passes m ↦ rw (m.values-is, m.labels-is, m.marks-is, m.kept-is) (failed a.column a.comparison a.operand i c.loop-row.invariant h c.requires.column_lt_columns.0 c.requires.column_lt_columns.1 answer m.if-passes.false)
+          rw (m.values-is, m.labels-is, m.marks-is, m.kept-is, v, k) (passed a.column a.comparison a.operand i c.loop-row.invariant h c.requires.column_lt_columns.0 c.requires.column_lt_columns.1 answer m.if-passing.true)
+      | else-passing m ↦ rw (m.values-is, m.labels-is, m.marks-is, m.kept-is) (failed a.column a.comparison a.operand i c.loop-row.invariant h c.requires.column_lt_columns.0 c.requires.column_lt_columns.1 answer m.if-passing.false)
     ]
 
 pub returns : goal.returns
