@@ -8,7 +8,8 @@ ghost use Rattle.cells.specs.promises.Search as spec;
 use cells::{At, DoesNotFit, table_within};
 
 // The first cell, row by row and left to right in the columns of the mask, that is not clear, of the table of so many rows and
-// columns from place `at` of the labels on.
+// columns from place `at` of the labels on. table_values::first_over is the same walk with another test of a cell: as one function with a
+// closure it is no plainer, since each clause would then rest on a search defined by a test, and on F.pre and F.post.
 pub fn not_clear(
     labels: &[u32],
     at: usize,
