@@ -1,7 +1,9 @@
 // What a program reads: its input, and the files that its arguments name.
 #![tactic(auto)]
 
-ghost use Rattle.std.specs.Prelude.{◌≡◌, ◌≤◌, length, take, vec_len, IfOk, IfSome, OnErr};
+ghost use Rattle.arguments.specs.Runs.{RanOn, RanOnce};
+ghost use Rattle.std.specs.List.{FoldsTo};
+ghost use Rattle.std.specs.Prelude.{◌≡◌, ℕ, List, OnOk, ◌≤◌, length, take, vec_len, IfOk, IfSome, OnErr};
 
 use std::alloc::Global;
 use std::env::Env;
@@ -19,12 +21,26 @@ where
     R: Files + Print + Eprint + Env + AllocGlobal,
     F: FnMut(&[u8]) -> io::Result<()>,
     requires { F.IsAlwaysCallable trial }
+    ensures { OnOk result ((runs : List (List ℕ)) × (last : F) × FoldsTo (RanOn F.FnMut) trial runs last) }
 {
     let names: Vec<String> = env::args(rt)?.skip(1).collect(rt.alloc())?;
     for name in &names {
-        if let Some(bytes) = file_bytes(rt, name, true, MOST)? {
-            trial(&bytes)?;
-        }
+        run_file(rt, name, &mut trial)?;
+    }
+    Ok(())
+}
+
+// Runs a trial on the bytes of one file.
+fn run_file<R, F>(rt: &R, name: &str, trial: &mut F) -> io::Result<()>
+where
+    R: Files + Print + Eprint + AllocGlobal,
+    F: FnMut(&[u8]) -> io::Result<()>,
+    requires { F.IsAlwaysCallable trial.old }
+    ensures again { F.IsAlwaysCallable trial.new }
+    ensures ran { OnOk result (RanOnce F.FnMut trial.old trial.new) }
+{
+    if let Some(bytes) = file_bytes(rt, name, true, MOST)? {
+        trial(&bytes)?;
     }
     Ok(())
 }

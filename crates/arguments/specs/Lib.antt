@@ -1,0 +1,2 @@
+-- What a trial ran on.
+pub mod Runs
