@@ -8,7 +8,8 @@ ghost use Rattle.group.specs.promises.Members as spec;
 
 use crate::Grouping;
 
-// The labels of the group that a row leads, each discharged over so many sheets, composed in row order.
+// The labels of the group that a row leads, each discharged over so many sheets, composed in row order. It is not one fold with that of the
+// values, by a closure: the contract of the fold would have to carry, for the labels alone, that each one met allows it.
 pub fn group_label(labels: &[u32], next: &[usize; 256], g: Grouping, row: usize, size: u32) -> u32
     requires column_inside { spec.ColumnInside g (length labels.now) }
     requires row_lt_rows { (row < g.table.rows) × Onward g.table.rows next.now }

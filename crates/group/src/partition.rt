@@ -11,7 +11,8 @@ use memory::{MARK_ROOM, Stack, StepError};
 use plan::{Aggregate, Step};
 
 // Groups the rows of the last table pushed by the columns of a mask, and puts the groups, each its keys and the aggregate of a column,
-// in its place. Labels of the column that are not well-formed do not fit.
+// in its place. Labels of the column that are not well-formed do not fit. The mask, the aggregate and the column are the fields of the step itself, and so no
+// struct of their own.
 pub fn group(
     values: &mut [i64],
     labels: &mut [u32],

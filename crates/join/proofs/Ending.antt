@@ -59,10 +59,10 @@ module _ {left right : Side} {m : Memory} (sides : Sides (length m.work.values) 
 
   all-wide : Each (Wide (width left right)) rows
   all-wide =
-      let part = mark_part m.marks left.marks left.rows in
-      let counted : length part ≡ left.rows = marks-count m.marks left.marks left.rows (omega (arith, marked.below, marked.mark-room)) in
-      rows-joined-wide left.key right.key left.columns right.columns sides.left_key sides.right_key (left_marked m left) (side_rows (cells_in m.work) right)
-      (marked-wide left.columns part (drop left.at (cells_in m.work)) (rw counted (cells-in m.work sides left sides.left_below))) (rows-in-wide m.work sides right sides.right-below)
+      let part = mark_part m.marks left.table.marks left.table.rows in
+      let counted : length part ≡ left.table.rows = marks-count m.marks left.table.marks left.table.rows (omega (arith, marked.below, marked.mark-room)) in
+      rows-joined-wide left.key right.key left.table.columns right.table.columns sides.left_key sides.right_key (left_marked m left) (side_rows (cells_in m.work) right)
+      (marked-wide left.table.columns part (drop left.table.at (cells_in m.work)) (rw counted (cells-in m.work sides left sides.left_below))) (rows-in-wide m.work sides right sides.right-below)
 
   module _ (h : count ≤ 256) where
     total : length rows ≡ count
@@ -81,18 +81,18 @@ module _ {left right : Side} {m : Memory} (sides : Sides (length m.work.values) 
           kept = j.grown.kept;
         }
 
-    pub rows-values : Moves last_slot left.at (count * width left right) (length u.work.values)
-    rows-values = down-values left.at (width left right) count rows above all-wide total (omega (arith, sides.left_below)) few sides.values-room sides.labels-room
+    pub rows-values : Moves last_slot left.table.at (count * width left right) (length u.work.values)
+    rows-values = down-values left.table.at (width left right) count rows above all-wide total (omega (arith, sides.left_below)) few sides.values-room sides.labels-room
 
-    pub rows-labels : Moves last_slot left.at (count * width left right) (length u.work.labels)
-    rows-labels = down-labels left.at (width left right) count rows above all-wide total (omega (arith, sides.left_below)) few sides.values-room sides.labels-room
+    pub rows-labels : Moves last_slot left.table.at (count * width left right) (length u.work.labels)
+    rows-labels = down-labels left.table.at (width left right) count rows above all-wide total (omega (arith, sides.left_below)) few sides.values-room sides.labels-room
 
-    pub finished-made : {marks : List ℕ} {r : Bool} → left.marks + 256 ≤ last_marks
-        → r ≡ can_move last_marks left.marks count (length u.marks) → marks ≡ cond r (moved last_marks left.marks count u.marks) u.marks
-        → Finished left right m (Ok count) (record { work = moved_in last_slot left.at (count * width left right) u.work; marks = marks })
+    pub finished-made : {marks : List ℕ} {r : Bool} → left.table.marks + 256 ≤ last_marks
+        → r ≡ can_move last_marks left.table.marks count (length u.marks) → marks ≡ cond r (moved last_marks left.table.marks count u.marks) u.marks
+        → Finished left right m (Ok count) (record { work = moved_in last_slot left.table.at (count * width left right) u.work; marks = marks })
     finished-made low told is-marks =
-        let down = moved_down left.at (width left right) count rows above all-wide total (omega (arith, sides.left_below)) few sides.values-room sides.labels-room in
-        let marks-moved = marks-down left.marks count rows (j.marked (omega (arith, total, as_many))) total low h marked.mark-room told is-marks in
+        let down = moved_down left.table.at (width left right) count rows above all-wide total (omega (arith, sides.left_below)) few sides.values-room sides.labels-room in
+        let marks-moved = marks-down left.table.marks count rows (j.marked (omega (arith, total, as_many))) total low h marked.mark-room told is-marks in
         record {
           refused = λ k. absurd (omega (arith, total));
           made = λ k. (ap Ok (sym total), down, marks-moved);

@@ -25,12 +25,12 @@ use Rattle.cells.proofs.Wanted.{search-same}
 
 -- ---- a search in the key column of a table
 
-pub key-search : (labels : List ℕ) (side : Side) (first : ℕ) (p : Result (Option At) DoesNotFit) → side.rows ≤ 256 → side.columns ≤ 8 → side.key < side.columns → side.at + side.rows * side.columns ≤ length labels
-    → place_says 31 first p ≡ not_clear_at 31 first labels side.at side.rows side.columns (1 * 2 ^ side.key % 2 ^ 32)
+pub key-search : (labels : List ℕ) (side : Side) (first : ℕ) (p : Result (Option At) DoesNotFit) → side.table.rows ≤ 256 → side.table.columns ≤ 8 → side.key < side.table.columns → side.table.at + side.table.rows * side.table.columns ≤ length labels
+    → place_says 31 first p ≡ not_clear_at 31 first labels side.table.at side.table.rows side.table.columns (1 * 2 ^ side.key % 2 ^ 32)
     → place_says 31 first p ≡ says (not_clear (λ c. eqb c side.key) 31 first (side_labels labels side))
 key-search labels side first p r c k h e =
-    e ∙ rw (le-leb side.rows 256 r, le-leb side.columns 8 c, le-within side.at (side.rows * side.columns) (length labels) h)
-    (ap says (search-same (in_mask (1 * 2 ^ side.key % 2 ^ 32)) (λ c. eqb c side.key) (λ i l. one-column side.key i (omega arith) l) 31 side.columns side.rows first (drop side.at labels) c))
+    e ∙ rw (le-leb side.table.rows 256 r, le-leb side.table.columns 8 c, le-within side.table.at (side.table.rows * side.table.columns) (length labels) h)
+    (ap says (search-same (in_mask (1 * 2 ^ side.key % 2 ^ 32)) (λ c. eqb c side.key) (λ i l. one-column side.key i (omega arith) l) 31 side.table.columns side.table.rows first (drop side.table.at labels) c))
 
 pub grid-length : (columns rows : ℕ) (labels : List ℕ) → length (grid_of columns rows labels) ≡ rows
 grid-length columns zero labels = refl

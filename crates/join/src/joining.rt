@@ -9,7 +9,7 @@ ghost use Rattle.join.specs.promises.Ends as ends;
 ghost use Rattle.pairs.specs.promises.Pairs as spec;
 
 use crate::keys::unclear_key;
-use memory::{LAST_MARKS, LAST_SLOT, LiveTable, MARK_ROOM, Refusal, Stack, StepError};
+use memory::{LAST_MARKS, LAST_SLOT, MARK_ROOM, Refusal, Stack, StepError};
 use pairs::{Side, join_rows};
 use plan::Step;
 
@@ -33,26 +33,19 @@ pub fn join(
     let columns = memory::fit(values.len(), labels.len(), stack, step)?;
     let lower = memory::live_table(stack, 1);
     let upper = memory::live_table(stack, 0);
-    let l = side(lower, left);
-    let r = side(upper, right);
+    let l = Side {
+        table: lower,
+        key: left,
+    };
+    let r = Side {
+        table: upper,
+        key: right,
+    };
     if let Some(at) = unclear_key(labels, l, r)? {
         return Err(StepError::Refused(Refusal::NotClear(at)));
     }
     let made = make_table(values, labels, marks, columns, l, r)?;
     Ok(memory::with_table(stack, lower.slot, columns, made))
-}
-
-// A live table, with its key.
-fn side(table: LiveTable, key: usize) -> Side
-    ensures { result ≡ ends.side_of table key }
-{
-    Side {
-        at: table.at,
-        marks: table.marks,
-        rows: table.rows,
-        columns: table.columns,
-        key: key,
-    }
 }
 
 // Makes the rows, of so many columns, and copies them down to the left table's slot; answers how many there are.
@@ -65,7 +58,7 @@ fn make_table(
     right: Side,
 ) -> Result<usize, Refusal>
     requires sides { spec.Sides (length values.old) (length labels.old) left right × (columns ≡ spec.width left right) }
-    requires marks_below { spec.MarksBelow left (length marks.old) × (left.marks + 256 ≤ last_marks) }
+    requires marks_below { spec.MarksBelow left (length marks.old) × (left.table.marks + 256 ≤ last_marks) }
     ensures { ends.Finished left right (memory_of values.old labels.old marks.old) result
         (memory_of values.new labels.new marks.new) }
 {
@@ -73,7 +66,7 @@ fn make_table(
     if 256 < made {
         return Err(Refusal::TooMany);
     }
-    moves::move_cells(values, labels, LAST_SLOT, left.at, made * columns);
-    moves::move_marks(marks, LAST_MARKS, left.marks, made);
+    moves::move_cells(values, labels, LAST_SLOT, left.table.at, made * columns);
+    moves::move_marks(marks, LAST_MARKS, left.table.marks, made);
     Ok(made)
 }

@@ -15,16 +15,28 @@ pub fn unclear_key(labels: &[u32], left: Side, right: Side) -> Result<Option<At>
         (check_join left.key right.key (spec.side_labels labels.now left)
         (spec.side_labels labels.now right)) }
 {
-    let first = search::not_clear(labels, left.at, left.rows, left.columns, 1 << left.key)?;
+    let first = search::not_clear(
+        labels,
+        left.table.at,
+        left.table.rows,
+        left.table.columns,
+        1 << left.key,
+    )?;
     if first.is_some() {
         return Ok(first);
     }
-    let second = search::not_clear(labels, right.at, right.rows, right.columns, 1 << right.key)?;
+    let second = search::not_clear(
+        labels,
+        right.table.at,
+        right.table.rows,
+        right.table.columns,
+        1 << right.key,
+    )?;
     let Some(at) = second else {
         return Ok(None);
     };
     Ok(Some(At {
-        row: left.rows + at.row,
+        row: left.table.rows + at.row,
         column: at.column,
     }))
 }

@@ -37,28 +37,28 @@ module _ {left right : Side} (w : Work) (sides : Sides (length w.values) (length
   cells-room = cells-length w room sides.values-room sides.labels-room
 
   -- a table below the last slot has all its cells
-  pub cells-in : (side : Side) → side.at + side.rows * side.columns ≤ 6144 → side.rows * side.columns ≤ length (drop side.at memory)
+  pub cells-in : (side : Side) → side.table.at + side.table.rows * side.table.columns ≤ 6144 → side.table.rows * side.table.columns ≤ length (drop side.table.at memory)
   cells-in side h = simp length-drop (omega (arith, cells-room))
 
-  pub rows-in-wide : (side : Side) → side.at + side.rows * side.columns ≤ 6144 → Each (Wide side.columns) (side_rows memory side)
-  rows-in-wide side h = rows-wide side.columns side.rows (drop side.at memory) (cells-in side h)
+  pub rows-in-wide : (side : Side) → side.table.at + side.table.rows * side.table.columns ≤ 6144 → Each (Wide side.table.columns) (side_rows memory side)
+  rows-in-wide side h = rows-wide side.table.columns side.table.rows (drop side.table.at memory) (cells-in side h)
 
   -- ---- one row with one row
 
-  key-at : (side : Side) (at : ℕ) → side.key < side.columns → at + side.columns ≤ 6144 → (cell_at side.key (side_row memory side at)).value ≡ get_or w.values (at + side.key) (pos 0)
+  key-at : (side : Side) (at : ℕ) → side.key < side.table.columns → at + side.table.columns ≤ 6144 → (cell_at side.key (side_row memory side at)).value ≡ get_or w.values (at + side.key) (pos 0)
   key-at side at h k =
       ap (λ (cell : Cell). cell.value)
-      (get_or-take side.columns (drop at memory) side.key blank h ∙ get_or-drop at memory side.key blank
+      (get_or-take side.table.columns (drop at memory) side.key blank h ∙ get_or-drop at memory side.key blank
       ∙ cells-get w (at + side.key) (pos 0) (omega (arith, sides.values-room)) (omega (arith, sides.labels-room)))
 
   -- what the comparison of the two values says
-  pub keys-match : (at other : ℕ) {r : Bool} → at + left.columns ≤ 6144 → other + right.columns ≤ 6144
+  pub keys-match : (at other : ℕ) {r : Bool} → at + left.table.columns ≤ 6144 → other + right.table.columns ≤ 6144
       → mag (get_or w.values (at + left.key) (pos 0)) < 2 ^ 63 → mag (get_or w.values (other + right.key) (pos 0)) < 2 ^ 63
       → r ≡ equal (back (get_or w.values (at + left.key) (pos 0))) (back (get_or w.values (other + right.key) (pos 0))) → keys_match memory left right at other ≡ r
   keys-match at other h k m n e = ap₂ equal (key-at left at sides.left_key h) (key-at right other sides.right_key k) ∙ sym (e ∙ ap₂ equal (back_is _ m) (back_is _ n))
 
   -- two values that differ do not match
-  pub keys-differ : (at other : ℕ) → at + left.columns ≤ 6144 → other + right.columns ≤ 6144 → eq_z (get_or w.values (at + left.key) (pos 0)) (get_or w.values (other + right.key) (pos 0)) ≡ false
+  pub keys-differ : (at other : ℕ) → at + left.table.columns ≤ 6144 → other + right.table.columns ≤ 6144 → eq_z (get_or w.values (at + left.key) (pos 0)) (get_or w.values (other + right.key) (pos 0)) ≡ false
       → keys_match memory left right at other ≡ false
   unfolding equal
   keys-differ at other h k e = ap₂ equal (key-at left at sides.left_key h) (key-at right other sides.right_key k) ∙ rw (e, and-false)

@@ -78,65 +78,65 @@ module _ (a b : ℕ) where
 
 module _ (m : Memory) (left right : Side) where
   abbrev cells : List Cell
-  cells = drop left.at (cells_in m.work)
+  cells = drop left.table.at (cells_in m.work)
 
   abbrev made : List Row → List Row
   made lefts = joined_rows left.key right.key lefts (side_rows (cells_in m.work) right)
 
   -- the first left rows, and the marks of the rows that they make
   abbrev firsts : ℕ → List Row
-  firsts i = rows_of left.columns (mark_part m.marks left.marks i) cells
+  firsts i = rows_of left.table.columns (mark_part m.marks left.table.marks i) cells
 
   abbrev pub marks_of : ℕ → List ℕ
   marks_of i = map (λ row. row.mark) (made (firsts i))
 
   module _ (below : MarksBelow left (length m.marks)) where
     -- left rows without their marks
-    lefts-bare : (i : ℕ) → i ≤ left.rows → map bare (firsts i) ≡ bare_rows left.columns i cells
+    lefts-bare : (i : ℕ) → i ≤ left.table.rows → map bare (firsts i) ≡ bare_rows left.table.columns i cells
     lefts-bare i h =
-        let part = mark_part m.marks left.marks i in
-        let counted : length part ≡ i = marks-count m.marks left.marks i (omega (arith, below.below, below.mark-room)) in
-        bare-rows left.columns part cells ∙ ap (λ (n : ℕ). bare_rows left.columns n cells) counted
+        let part = mark_part m.marks left.table.marks i in
+        let counted : length part ≡ i = marks-count m.marks left.table.marks i (omega (arith, below.below, below.mark-room)) in
+        bare-rows left.table.columns part cells ∙ ap (λ (n : ℕ). bare_rows left.table.columns n cells) counted
 
     -- the rows with marks are as many as without, and have the same cells
-    first-length : (i : ℕ) → i ≤ left.rows → length (made (firsts i)) ≡ length (made (bare_rows left.columns i cells))
+    first-length : (i : ℕ) → i ≤ left.table.rows → length (made (firsts i)) ≡ length (made (bare_rows left.table.columns i cells))
     first-length i h = joined_length left.key right.key (firsts i) (side_rows (cells_in m.work) right) ∙ ap (λ (l : List Row). length (made l)) (lefts-bare i h)
 
     pub all-length : length (marked_rows m left right) ≡ length (all_rows (cells_in m.work) left right)
-    all-length = first-length left.rows (le_refl left.rows)
+    all-length = first-length left.table.rows (le_refl left.table.rows)
 
     pub all-flat : flat (marked_rows m left right) ≡ flat (all_rows (cells_in m.work) left right)
-    all-flat = joined-flat left.key right.key (left_marked m left) (side_rows (cells_in m.work) right) ∙ ap (λ (l : List Row). flat (made l)) (lefts-bare left.rows (le_refl left.rows))
+    all-flat = joined-flat left.key right.key (left_marked m left) (side_rows (cells_in m.work) right) ∙ ap (λ (l : List Row). flat (made l)) (lefts-bare left.table.rows (le_refl left.table.rows))
 
     -- and so many marks
-    marks-long : (i : ℕ) → i ≤ left.rows → length (marks_of i) ≡ length (made (bare_rows left.columns i cells))
+    marks-long : (i : ℕ) → i ≤ left.table.rows → length (marks_of i) ≡ length (made (bare_rows left.table.columns i cells))
     marks-long i h = length-map (made (firsts i)) (λ row. row.mark) ∙ first-length i h
 
     -- one left row more
-    marks-more : (i : ℕ) → i < left.rows
-        → marks_of (i + 1) ≡ marks_of i ++ replicate (length (marks_of (i + 1)) - length (marks_of i)) (get_or m.marks (left.marks + i) 0)
+    marks-more : (i : ℕ) → i < left.table.rows
+        → marks_of (i + 1) ≡ marks_of i ++ replicate (length (marks_of (i + 1)) - length (marks_of i)) (get_or m.marks (left.table.marks + i) 0)
     marks-more i h =
-        let part = mark_part m.marks left.marks i in
-        let mark = get_or m.marks (left.marks + i) 0 in
-        let row : Row = record { cells = take left.columns (drop (length part * left.columns) cells); mark = mark } in
+        let part = mark_part m.marks left.table.marks i in
+        let mark = get_or m.marks (left.table.marks + i) 0 in
+        let row : Row = record { cells = take left.table.columns (drop (length part * left.table.columns) cells); mark = mark } in
         let count = length (joined_to left.key right.key row (side_rows (cells_in m.work) right)) in
-        let parts : mark_part m.marks left.marks (i + 1) ≡ part ++ (mark ∷ [])
-        = ap (mark_part m.marks left.marks) (add-one i) ∙ take-suc (drop left.marks m.marks) i 0 (simp length-drop (omega (arith, below.below, below.mark-room)))
-        ∙ ap (λ (x : ℕ). part ++ (x ∷ [])) (get_or-drop left.marks m.marks i 0) in
+        let parts : mark_part m.marks left.table.marks (i + 1) ≡ part ++ (mark ∷ [])
+        = ap (mark_part m.marks left.table.marks) (add-one i) ∙ take-suc (drop left.table.marks m.marks) i 0 (simp length-drop (omega (arith, below.below, below.mark-room)))
+        ∙ ap (λ (x : ℕ). part ++ (x ∷ [])) (get_or-drop left.table.marks m.marks i 0) in
         let all : marks_of (i + 1) ≡ marks_of i ++ replicate count mark
-        = ap (λ (l : List Row). map (λ row. row.mark) (made l)) (ap (λ (p : List ℕ). rows_of left.columns p cells) parts ∙ marked_more left.columns part mark cells)
+        = ap (λ (l : List Row). map (λ row. row.mark) (made l)) (ap (λ (p : List ℕ). rows_of left.table.columns p cells) parts ∙ marked_more left.table.columns part mark cells)
         ∙ marks-add left.key right.key (firsts i) row (side_rows (cells_in m.work) right) in
         let sum : length (marks_of (i + 1)) - length (marks_of i) ≡ count
         = omega (arith, ap length all, length-append (marks_of i) (replicate count mark), length-replicate count mark) in
         rw sum all
 
-    module _ (i : ℕ) {count : ℕ} {u : Work} (few : i ≤ left.rows) (g : Lefts left right m.work i count u) (h : count ≤ 256) where
+    module _ (i : ℕ) {count : ℕ} {u : Work} (few : i ≤ left.table.rows) (g : Lefts left right m.work i count u) (h : count ≤ 256) where
       marks-counted : length (marks_of i) ≡ count
       marks-counted = marks-long i few ∙ omega (arith, g.counted)
 
       -- their marks stand in the last slot
       module _ {marks : List ℕ} (w : Written m.marks last_marks (marks_of i) marks) where
-        pub over-joined : {total : ℕ} {x : Work} → Lefts left right m.work left.rows total x → 256 < total → Joined left right m total (record { work = x; marks = marks })
+        pub over-joined : {total : ℕ} {x : Work} → Lefts left right m.work left.table.rows total x → 256 < total → Joined left right m total (record { work = x; marks = marks })
         over-joined k o = record {
           grown = k;
           marked = λ l. absurd (omega (arith, k.counted));
@@ -144,7 +144,7 @@ module _ (m : Memory) (left right : Side) where
           marks-kept = marks-written w (omega (arith, marks-counted));
         }
 
-        pub all-joined : i ≡ left.rows → Joined left right m count (record { work = u; marks = marks })
+        pub all-joined : i ≡ left.table.rows → Joined left right m count (record { work = u; marks = marks })
         all-joined e = record {
           grown = rw e at g;
           marked = λ _. rw e at w;
@@ -153,9 +153,9 @@ module _ (m : Memory) (left right : Side) where
         }
 
         -- and so they do with those of one left row more
-        pub marks-next : {total : ℕ} {x : Work} {after : List ℕ} → i < left.rows → Lefts left right m.work (i + 1) total x → total ≤ 256
-            → Written marks (last_marks + count) (replicate (total - count) (get_or marks (left.marks + i) 0)) after → Written m.marks last_marks (marks_of (i + 1)) after
+        pub marks-next : {total : ℕ} {x : Work} {after : List ℕ} → i < left.table.rows → Lefts left right m.work (i + 1) total x → total ≤ 256
+            → Written marks (last_marks + count) (replicate (total - count) (get_or marks (left.table.marks + i) 0)) after → Written m.marks last_marks (marks_of (i + 1)) after
         marks-next {total} l k few-rows f =
             let then : length (marks_of (i + 1)) ≡ total = marks-long (i + 1) (omega arith) ∙ omega (arith, k.counted) in
-            let same = read_below w (left.marks + i) 0 (omega (arith, below.below)) in
+            let same = read_below w (left.table.marks + i) 0 (omega (arith, below.below)) in
             rw (marks-more i l, then, marks-counted) (then-written w (omega (arith, marks-counted)) (rw same at f))

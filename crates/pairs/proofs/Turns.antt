@@ -24,12 +24,12 @@ use Rattle.cells.proofs.Rows.{rows_same, rows-wide}
 -- the rows of one left row and the first right rows
 abbrev pub Paired : Side → Side → Work → ℕ → ℕ → ℕ → ℕ → Work → Type 0
 Paired left right w made at i count u =
-    Grown made left right (joined_to left.key right.key (side_row (cells_in w) left at) (bare_rows right.columns i (drop right.at (cells_in w)))) w count u
+    Grown made left right (joined_to left.key right.key (side_row (cells_in w) left at) (bare_rows right.table.columns i (drop right.table.at (cells_in w)))) w count u
 
 -- the rows of the first left rows
 abbrev pub Lefts : Side → Side → Work → ℕ → ℕ → Work → Type 0
 Lefts left right w i count u =
-    Grown 0 left right (joined_rows left.key right.key (bare_rows left.columns i (drop left.at (cells_in w))) (side_rows (cells_in w) right)) w count u
+    Grown 0 left right (joined_rows left.key right.key (bare_rows left.table.columns i (drop left.table.at (cells_in w))) (side_rows (cells_in w) right)) w count u
 
 module _ {left right : Side} (w : Work) (sides : Sides (length w.values) (length w.labels) left right) where
   abbrev memory : List Cell
@@ -57,68 +57,68 @@ module _ {left right : Side} (w : Work) (sides : Sides (length w.values) (length
   -- ---- right rows
 
   -- a row below the last slot is as it was
-  row_same : {u : Work} → Kept w u → take 6144 (cells_in u) ≡ take 6144 memory → (side : Side) (at : ℕ) → at + side.columns ≤ 6144
+  row_same : {u : Work} → Kept w u → take 6144 (cells_in u) ≡ take 6144 memory → (side : Side) (at : ℕ) → at + side.table.columns ≤ 6144
       → side_row (cells_in u) side at ≡ side_row memory side at
   row_same {u} kept e side at h =
-      let part = part_same memory (cells-room w sides) (cells_in u) at side.columns 6144 (cells_same kept) h (omega arith) e in
+      let part = part_same memory (cells-room w sides) (cells_in u) at side.table.columns 6144 (cells_same kept) h (omega arith) e in
       ap bare_row part
 
-  module _ (at : ℕ) (low : at + left.columns ≤ 6144) where
+  module _ (at : ℕ) (low : at + left.table.columns ≤ 6144) where
     abbrev with : List Row → List Row
     with = joined_to left.key right.key (side_row memory left at)
 
-    pub right-next : (other i : ℕ) {u x : Work} {made count total : ℕ} → i < right.rows → other ≡ right.at + i * right.columns
+    pub right-next : (other i : ℕ) {u x : Work} {made count total : ℕ} → i < right.table.rows → other ≡ right.table.at + i * right.table.columns
         → Paired left right w made at i count u → count ≤ 256 → Grown count left right (pair_rows (cells_in u) left right at other) u total x
         → Paired left right w made at (i + 1) total x
     right-next other i h e g k f =
-        let inside = mul-le-mul_right right.columns h in
-        let place : drop other memory ≡ drop (i * right.columns) (drop right.at memory) = ap (λ (n : ℕ). drop n memory) e ∙ sym (drop-drop (i * right.columns) right.at memory) in
+        let inside = mul-le-mul_right right.table.columns h in
+        let place : drop other memory ≡ drop (i * right.table.columns) (drop right.table.at memory) = ap (λ (n : ℕ). drop n memory) e ∙ sym (drop-drop (i * right.table.columns) right.table.at memory) in
         let l = row_same g.kept g.below left at low in
-        let r = row_same g.kept g.below right other (omega (arith, sides.right-below)) ∙ ap (λ (x : List Cell). bare_row (take right.columns x)) place in
-        let wide : Wide left.columns (side_row memory left at) = length-take-le left.columns (drop at memory) (simp length-drop (omega (arith, cells-room w sides))) in
-        row_next with (to-add left.key right.key (side_row memory left at)) right.columns (drop right.at memory) i
-        (λ xs x. to-joined-wide left.key right.key left.columns right.columns sides.left_key sides.right_key (side_row memory left at) xs wide x)
+        let r = row_same g.kept g.below right other (omega (arith, sides.right-below)) ∙ ap (λ (x : List Cell). bare_row (take right.table.columns x)) place in
+        let wide : Wide left.table.columns (side_row memory left at) = length-take-le left.table.columns (drop at memory) (simp length-drop (omega (arith, cells-room w sides))) in
+        row_next with (to-add left.key right.key (side_row memory left at)) right.table.columns (drop right.table.at memory) i
+        (λ xs x. to-joined-wide left.key right.key left.table.columns right.table.columns sides.left_key sides.right_key (side_row memory left at) xs wide x)
         (omega (arith, cells-in w sides right sides.right-below)) g k (ap₂ (λ (x y : Row). joined_to left.key right.key x (y ∷ [])) l r) f
 
     -- right rows whose keys differ from the left one are passed over
-    pub rights-skipped : (other i r : ℕ) {u : Work} {made count : ℕ} → i + r ≤ right.rows → other ≡ right.at + i * right.columns
+    pub rights-skipped : (other i r : ℕ) {u : Work} {made count : ℕ} → i + r ≤ right.table.rows → other ≡ right.table.at + i * right.table.columns
         → Paired left right w made at i count u → count ≤ 256
-        → ((j : ℕ) → j < r → eq_z (get_or u.values (at + left.key) (pos 0)) (get_or u.values (other + right.key + j * right.columns) (pos 0)) ≡ false)
+        → ((j : ℕ) → j < r → eq_z (get_or u.values (at + left.key) (pos 0)) (get_or u.values (other + right.key + j * right.table.columns) (pos 0)) ≡ false)
         → Paired left right w made at (i + r) count u
     rights-skipped other i zero h e g k differ = rw add-zero g
     rights-skipped other i (suc r) {u} {made} {count} h e g k differ =
-        let place : right.at + (i + r) * right.columns ≡ other + r * right.columns = omega (arith, e, add-mul i r right.columns) in
-        let inside : right.at + (i + r) * right.columns + right.columns ≤ 6144 = omega (arith, mul-le-mul_right right.columns h, sides.right-below, suc-mul (i + r) right.columns) in
-        let key : other + right.key + r * right.columns ≡ right.at + (i + r) * right.columns + right.key = omega (arith, place) in
+        let place : right.table.at + (i + r) * right.table.columns ≡ other + r * right.table.columns = omega (arith, e, add-mul i r right.table.columns) in
+        let inside : right.table.at + (i + r) * right.table.columns + right.table.columns ≤ 6144 = omega (arith, mul-le-mul_right right.table.columns h, sides.right-below, suc-mul (i + r) right.table.columns) in
+        let key : other + right.key + r * right.table.columns ≡ right.table.at + (i + r) * right.table.columns + right.key = omega (arith, place) in
         let apart = ap (λ (n : ℕ). eq_z (get_or u.values (at + left.key) (pos 0)) (get_or u.values n (pos 0))) (sym key) ∙ differ r (omega arith) in
         let next : i + r + 1 ≡ i + suc r = omega arith in
         let s = sides-kept g.kept in
-        rw next at (right-next (right.at + (i + r) * right.columns) (i + r) (omega arith) refl
+        rw next at (right-next (right.table.at + (i + r) * right.table.columns) (i + r) (omega arith) refl
         (rights-skipped other i r (omega arith) e g k (λ j l. differ j (omega arith))) k
-        (unmatched u s at (right.at + (i + r) * right.columns) (keys-differ u s at (right.at + (i + r) * right.columns) low inside apart) k))
+        (unmatched u s at (right.table.at + (i + r) * right.table.columns) (keys-differ u s at (right.table.at + (i + r) * right.table.columns) low inside apart) k))
 
-    pub rights-over : (i : ℕ) {u : Work} {made count : ℕ} → i ≤ right.rows → Paired left right w made at i count u → 256 < count
-        → Paired left right w made at right.rows count u
-    rights-over i h g m = rows-over with (to-add left.key right.key (side_row memory left at)) right.columns (drop right.at memory) i right.rows h g m
+    pub rights-over : (i : ℕ) {u : Work} {made count : ℕ} → i ≤ right.table.rows → Paired left right w made at i count u → 256 < count
+        → Paired left right w made at right.table.rows count u
+    rights-over i h g m = rows-over with (to-add left.key right.key (side_row memory left at)) right.table.columns (drop right.table.at memory) i right.table.rows h g m
 
   -- ---- left rows
 
   abbrev joined : List Row → List Row
   joined lefts = joined_rows left.key right.key lefts (side_rows memory right)
 
-  pub left-next : (i : ℕ) {u x : Work} {count total : ℕ} → i < left.rows → Lefts left right w i count u → count ≤ 256
-      → Grown count left right (left_rows (cells_in u) left right (left.at + i * left.columns)) u total x → Lefts left right w (i + 1) total x
+  pub left-next : (i : ℕ) {u x : Work} {count total : ℕ} → i < left.table.rows → Lefts left right w i count u → count ≤ 256
+      → Grown count left right (left_rows (cells_in u) left right (left.table.at + i * left.table.columns)) u total x → Lefts left right w (i + 1) total x
   left-next i {u} h g k f =
-      let inside = mul-le-mul_right left.columns h in
-      let l = row_same g.kept g.below left (left.at + i * left.columns) (omega (arith, sides.left_below))
-      ∙ ap (λ (x : List Cell). bare_row (take left.columns x)) (sym (drop-drop (i * left.columns) left.at memory)) in
+      let inside = mul-le-mul_right left.table.columns h in
+      let l = row_same g.kept g.below left (left.table.at + i * left.table.columns) (omega (arith, sides.left_below))
+      ∙ ap (λ (x : List Cell). bare_row (take left.table.columns x)) (sym (drop-drop (i * left.table.columns) left.table.at memory)) in
       let r : side_rows (cells_in u) right ≡ side_rows memory right
-      = rows_same right.columns right.rows (drop right.at (cells_in u)) (drop right.at memory)
+      = rows_same right.table.columns right.table.rows (drop right.table.at (cells_in u)) (drop right.table.at memory)
       (simp length-drop (omega (arith, sides.right-below, cells-room w sides, cells_same g.kept))) (simp length-drop (omega (arith, sides.right-below, cells-room w sides)))
-      (part_same memory (cells-room w sides) (cells_in u) right.at (right.rows * right.columns) 6144 (cells_same g.kept) sides.right-below (omega arith) g.below) in
-      row_next joined (rows-add left.key right.key (side_rows memory right)) left.columns (drop left.at memory) i
-      (λ xs x. rows-joined-wide left.key right.key left.columns right.columns sides.left_key sides.right_key xs (side_rows memory right) x (rows-in-wide w sides right sides.right-below))
+      (part_same memory (cells-room w sides) (cells_in u) right.table.at (right.table.rows * right.table.columns) 6144 (cells_same g.kept) sides.right-below (omega arith) g.below) in
+      row_next joined (rows-add left.key right.key (side_rows memory right)) left.table.columns (drop left.table.at memory) i
+      (λ xs x. rows-joined-wide left.key right.key left.table.columns right.table.columns sides.left_key sides.right_key xs (side_rows memory right) x (rows-in-wide w sides right sides.right-below))
       (omega (arith, cells-in w sides left sides.left_below)) g k (ap₂ (joined_to left.key right.key) l r ∙ sym (append-nil _)) f
 
-  pub lefts-over : (i : ℕ) {u : Work} {count : ℕ} → i ≤ left.rows → Lefts left right w i count u → 256 < count → Lefts left right w left.rows count u
-  lefts-over i h g m = rows-over joined (rows-add left.key right.key (side_rows memory right)) left.columns (drop left.at memory) i left.rows h g m
+  pub lefts-over : (i : ℕ) {u : Work} {count : ℕ} → i ≤ left.table.rows → Lefts left right w i count u → 256 < count → Lefts left right w left.table.rows count u
+  lefts-over i h g m = rows-over joined (rows-add left.key right.key (side_rows memory right)) left.table.columns (drop left.table.at memory) i left.table.rows h g m

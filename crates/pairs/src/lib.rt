@@ -7,15 +7,12 @@ ghost use Rattle.pairs.specs.promises.Pairs as spec;
 
 mod rows;
 
-use memory::{LAST_MARKS, LAST_SLOT, MARK_ROOM, ROOM};
+use memory::{LAST_MARKS, LAST_SLOT, LiveTable, MARK_ROOM, ROOM};
 
-// A table of the join: where it and its marks begin in work memory, its rows and columns, and its key column.
+// A table of the join, and its key column.
 #[derive(Clone, Copy)]
 pub struct Side {
-    pub at: usize,
-    pub marks: usize,
-    pub rows: usize,
-    pub columns: usize,
+    pub table: LiveTable,
     pub key: usize,
 }
 
@@ -48,18 +45,23 @@ fn sides_fit(values: usize, labels: usize, left: Side, right: Side) -> bool
     if !(side_fits(left) & side_fits(right)) {
         return false;
     }
-    (left.columns + right.columns <= 9) & (ROOM <= values) & (ROOM <= labels)
+    (left.table.columns + right.table.columns <= 9) & (ROOM <= values) & (ROOM <= labels)
 }
 
 // Whether the marks of a table lie below the last slot, in a slice of this length.
 fn marks_fit(marks: usize, side: Side) -> bool
     ensures { result ≡ spec.marks_fit marks side }
 {
-    cells::within(side.marks, side.rows, LAST_MARKS) & (MARK_ROOM <= marks)
+    cells::within(side.table.marks, side.table.rows, LAST_MARKS) & (MARK_ROOM <= marks)
 }
 
 fn side_fits(side: Side) -> bool
     ensures { result ≡ spec.side_fits side }
 {
-    cells::table_within(side.at, side.rows, side.columns, LAST_SLOT) & (side.key < side.columns)
+    cells::table_within(
+        side.table.at,
+        side.table.rows,
+        side.table.columns,
+        LAST_SLOT,
+    ) & (side.key < side.table.columns)
 }

@@ -8,7 +8,7 @@ ghost use Rattle.pairs.specs.promises.Pairs as spec;
 
 use crate::Side;
 use comparison::equal;
-use memory::{LAST_MARKS, LAST_SLOT};
+use memory::{LAST_MARKS, LAST_SLOT, LiveTable};
 
 // Makes the rows of all left rows, each with the left row's mark, and answers how many there are: 257 if more than 256.
 pub fn join_all(
@@ -23,12 +23,12 @@ pub fn join_all(
         (memory_of values.new labels.new marks.new) }
 {
     let mut made = 0;
-    for row in 0..left.rows {
+    for row in 0..left.table.rows {
         let count = join_row(values, labels, left, right, row, made);
         if 256 < count {
             return count;
         }
-        let mark = marks[left.marks + row];
+        let mark = marks[left.table.marks + row];
         marks[LAST_MARKS + made..LAST_MARKS + count].fill(mark);
         made = count;
     }
@@ -45,17 +45,17 @@ fn join_row(
     made: usize,
 ) -> usize
     requires sides { spec.Sides (length values.old) (length labels.old) left right }
-    requires row_lt_rows { (row < left.rows) × (made ≤ 256) }
+    requires row_lt_rows { (row < left.table.rows) × (made ≤ 256) }
     ensures { spec.Grown made left right
-        (spec.left_rows (cells_in (work values.old labels.old)) left right (left.at + row * left.columns))
+        (spec.left_rows (cells_in (work values.old labels.old)) left right (left.table.at + row * left.table.columns))
         (work values.old labels.old) result (work values.new labels.new) }
 {
-    let at = left.at + row * left.columns;
-    let rows = right.rows;
-    let columns = right.columns;
+    let at = left.table.at + row * left.table.columns;
+    let LiveTable { rows, columns, .. } = right.table;
     let mut count = made;
-    let mut other = right.at;
+    let mut other = right.table.at;
     let mut i = 0;
+    // The search passes over several rows at once, so that no index is counted.
     while i < rows {
         let key = values[at + left.key];
         let skipped = unlike(values, key, other + right.key, columns, rows - i);
@@ -126,7 +126,7 @@ fn join_pair(
     made: usize,
 ) -> usize
     requires sides { spec.Sides (length values.old) (length labels.old) left right }
-    requires columns_bound { (at + left.columns ≤ last_slot) × (other + right.columns ≤ last_slot) × (made ≤ 256) }
+    requires columns_bound { (at + left.table.columns ≤ last_slot) × (other + right.table.columns ≤ last_slot) × (made ≤ 256) }
     ensures { spec.Grown made left right
         (spec.pair_rows (cells_in (work values.old labels.old)) left right at other)
         (work values.old labels.old) result (work values.new labels.new) }
@@ -137,7 +137,7 @@ fn join_pair(
     if made == 256 {
         return 257;
     }
-    let width = left.columns + (right.columns - 1);
+    let width = left.table.columns + (right.table.columns - 1);
     write_row(
         values,
         labels,
@@ -161,18 +161,18 @@ fn write_row(
     to: usize,
 )
     requires sides { spec.Sides (length values.old) (length labels.old) left right }
-    requires columns_bound { (at + left.columns ≤ to) × (other + right.columns ≤ to) × (to + (left.columns + (right.columns - 1)) ≤ room) }
+    requires columns_bound { (at + left.table.columns ≤ to) × (other + right.table.columns ≤ to) × (to + (left.table.columns + (right.table.columns - 1)) ≤ room) }
     ensures { Put to (spec.row_made (cells_in (work values.old labels.old)) left right at other).cells
         (work values.old labels.old) (work values.new labels.new) }
 {
     let key = right.key;
-    moves::move_cells(values, labels, at, to, left.columns);
-    moves::move_cells(values, labels, other, to + left.columns, key);
+    moves::move_cells(values, labels, at, to, left.table.columns);
+    moves::move_cells(values, labels, other, to + left.table.columns, key);
     moves::move_cells(
         values,
         labels,
         other + key + 1,
-        to + left.columns + key,
-        right.columns - key - 1,
+        to + left.table.columns + key,
+        right.table.columns - key - 1,
     );
 }

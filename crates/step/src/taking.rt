@@ -5,7 +5,8 @@ ghost use Rattle.step.specs.promises.Taking.{Taken};
 use memory::{MARK_ROOM, Stack, StepError};
 use plan::Step;
 
-// Takes a step on the stack in work memory, with the draws that are left.
+// Takes a step on the stack in work memory, with the draws that are left. The steps that move no row are not lent the marks, and so do not test them; the
+// others, which any caller may call, test them again.
 pub fn take_step(
     container: &[u8],
     draws: &[i64],

@@ -10,7 +10,7 @@ use Rattle.memory.specs.promises.Stack.{last_slot, last_marks, RowsAt, MarksAt}
 
 -- a live table, with its key
 abbrev pub side_of : LiveTable → ℕ → Side
-side_of table key = record { at = table.at; marks = table.marks; rows = table.rows; columns = table.columns; key = key }
+side_of table key = record { table = table; key = key }
 
 -- More than 256 rows are refused, and nothing below the last slot is changed. Else they are counted, and stand at the left table's place with their
 -- marks; nothing before that place is changed.
@@ -20,6 +20,6 @@ pub record Finished (left right : Side) (before : Memory) (done : Result ℕ Ref
       × (take last_slot (cells_in after.work) ≡ take last_slot (cells_in before.work)) × (take last_marks after.marks ≡ take last_marks before.marks)
   pub made : length (marked_rows before left right) ≤ 256
       → (done ≡ Ok (length (marked_rows before left right)))
-      × RowsAt left.at (marked_rows before left right) before.work after.work
-      × MarksAt left.marks (marked_rows before left right) before.marks after.marks
+      × RowsAt left.table.at (marked_rows before left right) before.work after.work
+      × MarksAt left.table.marks (marked_rows before left right) before.marks after.marks
   pub kept : AllKept before after

@@ -13,35 +13,35 @@ use Rattle.plan.specs.Table.{Cell, Row, flat, rows_of}
 pub record Sides (values labels : ℕ) (left right : Side) : Type 0 where
   pub values-room : room ≤ values
   pub labels-room : room ≤ labels
-  pub left-rows : left.rows ≤ 256
-  pub right-rows : right.rows ≤ 256
-  pub left_below : left.at + left.rows * left.columns ≤ last_slot
-  pub right-below : right.at + right.rows * right.columns ≤ last_slot
-  pub left_key : left.key < left.columns
-  pub right_key : right.key < right.columns
-  pub few : left.columns + (right.columns - 1) ≤ 8
+  pub left-rows : left.table.rows ≤ 256
+  pub right-rows : right.table.rows ≤ 256
+  pub left_below : left.table.at + left.table.rows * left.table.columns ≤ last_slot
+  pub right-below : right.table.at + right.table.rows * right.table.columns ≤ last_slot
+  pub left_key : left.key < left.table.columns
+  pub right_key : right.key < right.table.columns
+  pub few : left.table.columns + (right.table.columns - 1) ≤ 8
 
 -- the same, as it is tested
 unfoldable pub side_fits : Side → Bool
-side_fits side = table_within side.at side.rows side.columns last_slot && ltb side.key side.columns
+side_fits side = table_within side.table.at side.table.rows side.table.columns last_slot && ltb side.key side.table.columns
 
 unfoldable pub sides_fit : ℕ → ℕ → Side → Side → Bool
 sides_fit values labels left right =
-    (side_fits left && side_fits right) && (leb (left.columns + right.columns) 9 && leb room values && leb room labels)
+    (side_fits left && side_fits right) && (leb (left.table.columns + right.table.columns) 9 && leb room values && leb room labels)
 
 -- the columns of a row made
 abbrev pub width : Side → Side → ℕ
-width left right = left.columns + (right.columns - 1)
+width left right = left.table.columns + (right.table.columns - 1)
 
 -- the row of a table that begins at a place, all its rows, and its labels, row by row
 abbrev pub side_row : List Cell → Side → ℕ → Row
-side_row memory side at = row_from side.columns memory at
+side_row memory side at = row_from side.table.columns memory at
 
 abbrev pub side_rows : List Cell → Side → List Row
-side_rows memory side = table_rows side.columns side.rows memory side.at
+side_rows memory side = table_rows side.table.columns side.table.rows memory side.table.at
 
 abbrev pub side_labels : List ℕ → Side → List (List ℕ)
-side_labels labels side = grid_of side.columns side.rows (drop side.at labels)
+side_labels labels side = grid_of side.table.columns side.table.rows (drop side.table.at labels)
 
 -- the row that a left and a right row make, which begin at these places
 abbrev pub row_made : List Cell → Side → Side → ℕ → ℕ → Row
@@ -73,15 +73,15 @@ pub record Grown (made : ℕ) (left right : Side) (new : List Row) (before : Wor
 
 -- the marks of the left table lie below the last slot, in a slice of this length; as facts, and as it is tested
 pub record MarksBelow (left : Side) (marks : ℕ) : Type 0 where
-  pub below : left.marks + left.rows ≤ last_marks
+  pub below : left.table.marks + left.table.rows ≤ last_marks
   pub mark-room : mark_room ≤ marks
 
 unfoldable pub marks_fit : ℕ → Side → Bool
-marks_fit marks left = within left.marks left.rows last_marks && leb mark_room marks
+marks_fit marks left = within left.table.marks left.table.rows last_marks && leb mark_room marks
 
 -- the left rows with their marks, and all rows of the join with theirs
 abbrev pub left_marked : Memory → Side → List Row
-left_marked memory left = rows_of left.columns (mark_part memory.marks left.marks left.rows) (drop left.at (cells_in memory.work))
+left_marked memory left = rows_of left.table.columns (mark_part memory.marks left.table.marks left.table.rows) (drop left.table.at (cells_in memory.work))
 
 abbrev pub marked_rows : Memory → Side → Side → List Row
 marked_rows memory left right = joined_rows left.key right.key (left_marked memory left) (side_rows (cells_in memory.work) right)

@@ -34,7 +34,7 @@ parts : (c : After-live_table-upper) → let a = c.args in JoinFits a.left a.rig
 parts c = let a = c.args in join-parts a.left a.right [] _ _ a.stack _ _ _ c.live_table-lower.ensures c.live_table-upper.ensures (fitted c).0 (fitted c).1
 
 keys : (c : After-unclear_key) → let a = c.args in place_says 31 0 c.unclear_key.result ≡ says (check_join a.left a.right (side_labels a.labels.now (side_of c.live_table-lower.result a.left)) (side_labels a.labels.now (side_of c.live_table-upper.result a.right)))
-keys c = rw (c.side-l.ensures, c.side-r.ensures) at c.unclear_key.ensures
+keys c = c.unclear_key.ensures
 
 pub returns-then-marks-lt-MARK_ROOM : goal.returns-then-marks-lt-MARK_ROOM
 returns-then-marks-lt-MARK_ROOM c =
@@ -48,7 +48,7 @@ returns-in_err-columns c =
     λ supply. rw (error-is c.from_residual.ensures.1) (unfit-done (Join a.left a.right) supply _ _ (not-even a.marks.now (columns-misfit _ _ (sym c.in_err-columns.ensures))))
 
 pub unclear_key-requires : goal.unclear_key-requires
-unclear_key-requires c = rw (c.side-l.ensures, c.side-r.ensures) (in-labels (parts (goal.at.unclear_key-requires c).After-live_table-upper).sides)
+unclear_key-requires c = in-labels (parts (goal.at.unclear_key-requires c).After-live_table-upper).sides
 
 pub returns-in_err-at : goal.returns-in_err-at
 returns-in_err-at c = absurd (never-unfit (sym (ap (place_says 31 0) c.in_err-at.was) ∙ keys (goal.at.returns-in_err-at c).After-unclear_key))
@@ -66,7 +66,7 @@ pub make_table-requires : goal.make_table-requires
 make_table-requires c =
     let t = (goal.at.make_table-requires c).After-live_table-upper in
     let p = parts t in
-    rw (c.side-l.ensures, c.side-r.ensures) record { sides = (p.sides, p.width_is); marks_below = lower-marks p (marks-room t) }
+    record { sides = (p.sides, p.width_is); marks_below = lower-marks p (marks-room t) }
 
 pub returns-in_err-made : goal.returns-in_err-made
 unfolding columns_exist made_columns
@@ -76,7 +76,7 @@ returns-in_err-made c =
     let answer = c.in_ok-at.was ∙ ap Ok c.in_default.is in
     λ supply. rw (error-is c.from_residual-in_err-made.ensures.1)
     (too-many-done a.left a.right supply (memory (goal.at.returns-in_err-made c).Start) a.stack (marks-room t) (marks-too a.marks.now (marks-room t) (fitted t).0) (parts t)
-    (sym (ap (place_says 31 0) answer) ∙ keys (goal.at.returns-in_err-made c).After-unclear_key) (rw (c.side-l.ensures, c.side-r.ensures) at c.in_err-made.ensures))
+    (sym (ap (place_says 31 0) answer) ∙ keys (goal.at.returns-in_err-made c).After-unclear_key) c.in_err-made.ensures)
 
 pub returns : goal.returns
 unfolding columns_exist made_columns
@@ -86,4 +86,4 @@ returns c =
     let answer = c.in_ok-at.was ∙ ap Ok c.in_default.is in
     λ supply. rw (c.with_table.ensures, (parts t).width_is)
     (rows-made-done a.left a.right supply (memory (goal.at.returns c).Start) a.stack (marks-room t) (marks-too a.marks.now (marks-room t) (fitted t).0) (parts t)
-    (sym (ap (place_says 31 0) answer) ∙ keys (goal.at.returns c).After-unclear_key) (rw (c.side-l.ensures, c.side-r.ensures) at c.in_ok-made.ensures))
+    (sym (ap (place_says 31 0) answer) ∙ keys (goal.at.returns c).After-unclear_key) c.in_ok-made.ensures)

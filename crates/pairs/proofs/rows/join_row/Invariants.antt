@@ -6,7 +6,7 @@ use Rattle.pairs.proofs.Turns.{Paired}
 use Rattle.pairs.proofs.rows.join_row.Given as goal
 
 abbrev pub invariant-loop-i : goal.invariant-loop-i
-invariant-loop-i l = (l.i ≤ l.right.rows) × (l.count ≤ 256) × (l.other ≡ l.right.at + l.i * l.right.columns) × (l.at + l.left.columns ≤ 6144) × Paired l.left l.right (work l.initial.values l.initial.labels) l.made l.at l.i l.count (work l.values l.labels)
+invariant-loop-i l = (l.i ≤ l.right.table.rows) × (l.count ≤ 256) × (l.other ≡ l.right.table.at + l.i * l.right.table.columns) × (l.at + l.left.table.columns ≤ 6144) × Paired l.left l.right (work l.initial.values l.initial.labels) l.made l.at l.i l.count (work l.values l.labels)
 
 abbrev pub decreases-loop-i : goal.decreases-loop-i
-decreases-loop-i l = l.right.rows - l.i
+decreases-loop-i l = l.right.table.rows - l.i

@@ -7,7 +7,7 @@ pub returns : goal.returns
 returns c =
     let a = c.args in
     let sides = c.requires.sides in
-    row-moved (work a.values.now a.labels.now) a.left.columns a.right.columns a.right.key a.at a.other a.to sides.values-room sides.labels-room sides.right_key
+    row-moved (work a.values.now a.labels.now) a.left.table.columns a.right.table.columns a.right.key a.at a.other a.to sides.values-room sides.labels-room sides.right_key
     c.requires.columns_bound.0 c.requires.columns_bound.1 c.requires.columns_bound.2 (c.move_cells.ensures.value, (c.move_cells.ensures.values_after, c.move_cells.ensures.labels_after))
     (c.move_cells-2.ensures.value, (c.move_cells-2.ensures.values_after, c.move_cells-2.ensures.labels_after))
     (c.move_cells-3.ensures.value, (c.move_cells-3.ensures.values_after, c.move_cells-3.ensures.labels_after))
