@@ -23,7 +23,7 @@ fn check_tables(container: &[u8], least: u16) -> Result<(), InputRefusal>
     Ok(())
 }
 
-// The columns of the first `count` tables.
+// The columns of the first `count` tables, in an array of eight: no heap on the path of a run.
 fn table_widths(container: &[u8], count: usize) -> [usize; 8]
     requires { count ≤ 8 }
     ensures { take count result ≡ table_widths container.now 1 count }

@@ -10,7 +10,8 @@ use little_endian::four;
 use table_part::cell_count;
 
 // Raises the label of a cell in the new container, if its minimum is 1, and writes its offset after the first `count`. Answers how many
-// offsets there are then. The table part begins at `at`.
+// offsets there are then. The table part begins at `at`. The two slices and the count stay parameters: the clauses of a struct that holds lent slices
+// would be over its entry and its exit, and no plainer.
 fn raise_label(
     table: &[u8],
     at: usize,

@@ -37,7 +37,6 @@ pub fn check_layout(container: &[u8]) -> Result<(), InputRefusal>
     ensures { input_says result ≡ and_then (check_container container.now) (check_directory 12 (part_count container.now) container.now) }
 {
     check_container(container)?;
-    check_directory(container, byte(container, 0) as u16).map_err(|wrong| InputRefusal::Directory(
-        wrong.place,
-    ))
+    let parts = byte(container, 0) as u16;
+    check_directory(container, parts).map_err(|wrong| InputRefusal::Directory(wrong.place))
 }

@@ -5,7 +5,7 @@ ghost use Rattle.plan_check.specs.promises.Stack.{made_on};
 use plan::Step;
 use std::marker::Model;
 
-// The widths of the tables on the stack, the last pushed first.
+// The widths of the tables on the stack, the last pushed first, in an array of three: no heap on the path of a run.
 #[derive(Drop)]
 pub struct Widths {
     depth: usize,
