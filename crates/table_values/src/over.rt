@@ -20,7 +20,8 @@ pub fn first_over(
     }
     for row in 0..rows {
         for column in 0..columns {
-            if !value::range::in_range(values[at + row * columns + column]) {
+            let within = value::range::in_range(values[at + row * columns + column]);
+            if !within {
                 return Ok(Some(At { row, column }));
             }
         }

@@ -11,16 +11,16 @@ use Rattle.cells.proofs.Searching.{within-table, cell-inside}
 use Rattle.table_values.proofs.Overs.{cells_left, search-begins, row-begins, cell-next, row_ends, search-ends}
 use Rattle.value.proofs.Machine.{back_is}
 use Rattle.table_values.proofs.over.first_over.Goals as goal
-use Rattle.table_values.proofs.over.first_over.Goals.{After-in_range}
+use Rattle.table_values.proofs.over.first_over.Goals.{After-in_range-within}
 
 -- the search at a cell, by what is answered of its value
-tested : (c : After-in_range) (first : ℕ) → let a = c.args in let row = c.loop-row.row in let column = c.loop-column.column in
-    first_over_in first a.columns a.rows (drop a.at a.values.now) ≡ or_else (refuse_if (not c.in_range.result) 36 (first + row) column) (cells_left a.values.now a.rows a.columns first row (column + 1) (a.at + row * a.columns + column + 1))
+tested : (c : After-in_range-within) (first : ℕ) → let a = c.args in let row = c.loop-row.row in let column = c.loop-column.column in
+    first_over_in first a.columns a.rows (drop a.at a.values.now) ≡ or_else (refuse_if (not c.in_range-within.result) 36 (first + row) column) (cells_left a.values.now a.rows a.columns first row (column + 1) (a.at + row * a.columns + column + 1))
 tested c first =
     let a = c.args in
     let t = within-table a.at a.rows a.columns _ (sym c.table_within.ensures ∙ c.if-not-table_within.false) in
     let inside = cell-inside _ _ _ _ c.loop-row-test.true c.loop-column-test.true in
-    rw (c.in_range.ensures, back_is _ c.in_range-arg-1.given)
+    rw (c.in_range-within.ensures, back_is _ c.in_range-arg-1.given)
     (c.loop-column.invariant first ∙ cell-next a.values.now a.rows a.columns first _ c.loop-column.column _ c.loop-column-test.true (omega (arith, inside)))
 
 pub loop-row-init : goal.loop-row-init
@@ -39,7 +39,7 @@ pub loop-column-preserved : goal.loop-column-preserved
 loop-column-preserved c = λ first.
     let a = c.args in
     let next : a.at + c.loop-row.row * a.columns + (c.loop-column.column + 1) ≡ a.at + c.loop-row.row * a.columns + c.loop-column.column + 1 = omega arith in
-    rw next (tested (goal.at.loop-column-preserved c).After-in_range first ∙ rw c.if-not-in_range.false-raw)
+    rw next (tested (goal.at.loop-column-preserved c).After-in_range-within first ∙ rw c.if-not-within.false-raw)
 
 pub loop-row-preserved : goal.loop-row-preserved
 loop-row-preserved c = λ first.
@@ -48,10 +48,10 @@ loop-row-preserved c = λ first.
     let next : a.at + (c.loop-row.row + 1) * a.columns ≡ a.at + c.loop-row.row * a.columns + c.loop-column.column = omega arith in
     rw next (c.loop-column.invariant first ∙ row_ends a.values.now a.rows a.columns first c.loop-row.row c.loop-column.column _ full)
 
-pub returns-then-not-in_range : goal.returns-then-not-in_range
-returns-then-not-in_range c = λ first.
+pub returns-then-not-within : goal.returns-then-not-within
+returns-then-not-within c = λ first.
     rw (sym c.table_within.ensures ∙ c.if-not-table_within.false)
-    (ap says (sym (tested (goal.at.returns-then-not-in_range c).After-in_range first ∙ rw c.if-not-in_range.true-raw)))
+    (ap says (sym (tested (goal.at.returns-then-not-within c).After-in_range-within first ∙ rw c.if-not-within.true-raw)))
 
 pub returns : goal.returns
 returns c = λ first.
