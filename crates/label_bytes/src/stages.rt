@@ -1,7 +1,11 @@
 // The stages left on the table that begins with the first label. It is 0 where there are not so many labels.
-ghost use Rattle.std.specs.Prelude.{◌≡◌};
+ghost use Rattle.std.specs.Prelude.{◌≡◌, ◌≤◌, length, sum_by};
+ghost use Rattle.label_words.specs.Stages.{stage_count};
+ghost use Rattle.little_endian.specs.Bytes.{number_at};
 ghost use Rattle.trace_lines.specs.promises.Stages.{stages_at};
 ghost use Rattle.label_bytes.specs.Words.{words_of};
+
+use super::test;
 
 // By the product's sum.
 pub fn stages_by_words(labels: &[u32], rows: usize, columns: usize) -> u32
@@ -14,15 +18,21 @@ pub fn stages_by_words(labels: &[u32], rows: usize, columns: usize) -> u32
 pub fn stages_by_bytes(bytes: &[u8], rows: usize, columns: usize) -> u32
     ensures { result ≡ stages_at (words_of bytes.now) 0 rows columns }
 {
-    if !cells::table_within(0, rows, columns, bytes.len() / 4) {
+    let (labels, _) = bytes.as_chunks::<4>();
+    if !cells::table_within(0, rows, columns, labels.len()) {
         return 0;
     }
-    let count = rows * columns;
+    stages_of(&labels[..rows * columns])
+}
+
+// The sum of their stages.
+fn stages_of(labels: &[[u8; 4]]) -> u32
+    requires { length labels.now ≤ 2048 }
+    ensures { result ≡ sum_by (λ label. stage_count (number_at label 0 4)) labels.now }
+{
     let mut sum = 0;
-    let mut i = 0;
-    while i < count {
-        sum += super::test::stage_count(bytes[4 * i + 3]);
-        i += 1;
+    for label in labels {
+        sum += test::stage_count(label);
     }
     sum
 }

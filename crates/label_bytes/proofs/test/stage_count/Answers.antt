@@ -1,23 +1,7 @@
 -- `label_bytes::test::stage_count` meets its contract. Assumes nothing.
-use Prim.Native.Nat.{◌/◌}
-use mathlib.Core.Path.{◌≡◌, refl}
-use native.Mathlib.Nat.{zero-add}
-use native.Mathlib.Omega.{arith}
-use lib.Count.{ones, ones_step, ones-le}
+use mathlib.Core.Path.{◌∙◌}
+use Rattle.label_bytes.proofs.Bytes.{first-ones}
 use Rattle.label_bytes.proofs.test.stage_count.Goals as goal
 
-pub loop-rest-init : goal.loop-rest-init
-loop-rest-init c = rw zero-add
-
-pub overflow_add-count : goal.overflow_add-count
-overflow_add-count c = omega (arith, ones_step c.loop-rest.rest, ones-le 8 (c.args.first / 16) (omega arith))
-
-pub loop-rest-smaller : goal.loop-rest-smaller
-loop-rest-smaller c = omega arith
-
-pub loop-rest-preserved : goal.loop-rest-preserved
-loop-rest-preserved c = omega (arith, ones_step c.loop-rest.rest)
-
 pub returns : goal.returns
-unfolding ones
-returns c = let z : ones c.loop-rest.rest ≡ 0 = rw c.loop-rest-test.false refl in omega arith
+returns c = c.upper_ones.ensures ∙ first-ones c.args.label.now 0 c.fits-label
