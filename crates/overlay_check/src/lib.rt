@@ -55,7 +55,7 @@ fn check_parts(container: &[u8], overlay: &[u8]) -> Result<(), InputRefusal>
     Ok(())
 }
 
-// 22 of each part in turn.
+// 22 of each part in turn. A loop beside that of `check_parts`: one function for both, with a closure, is longer than either.
 #[tactic(auto, using(crate::proofs::PartsLeft::after_part))]
 fn check_part_labels(overlay: &[u8]) -> Result<(), InputRefusal>
     ensures { input_says result ≡ spec.each_part (spec.check_part_labels overlay.now) 0 (spec.overlay_count overlay.now) }

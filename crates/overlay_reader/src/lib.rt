@@ -10,6 +10,7 @@ use little_endian::four;
 
 // Composes the labels that an overlay has for the container's table with this number onto those of the table of so many rows and columns that stands at a
 // place. Where the overlay is empty, or there is no such table within the labels, nothing changes.
+// Place, rows and columns are three numbers, as `cells::table_within` and `floors::floor_labels` take them: no struct below the live tables has them.
 #[tactic(auto, unfolding(crate::specs::promises::Composing::after_overlay))]
 pub fn compose_labels(
     overlay: &[u8],
