@@ -37,7 +37,7 @@ pub fn refusal(
     rows_refusal(labels, table, column, transform)
 }
 
-// The same of labels that are well-formed and an operation that exists.
+// The same of labels that are well-formed and an operation that exists. NOISE has a loop of its own: with the row as a parameter it would be no shorter.
 fn rows_refusal(
     labels: &[u32],
     table: LiveTable,

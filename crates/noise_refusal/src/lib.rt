@@ -32,7 +32,7 @@ pub fn refusal(
     rows_refusal(labels, table, column, left)
 }
 
-// The same of labels that are well-formed.
+// The same of labels that are well-formed. APPLY has a loop of its own: with the row as a parameter it would be no shorter.
 fn rows_refusal(
     labels: &[u32],
     table: LiveTable,
