@@ -3,3 +3,4 @@ pub mod LabelledSteps
 mod TakenMeaning
 mod Walking
 mod OneStep
+mod Turn

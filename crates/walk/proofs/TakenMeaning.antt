@@ -10,11 +10,11 @@ use lib.ListN.{length, drop, length-map}
 use borrow.Author.Tests.{ltb-true, le-leb}
 use Rattle.layout.specs.Layout.{part_count, part_of}
 use Rattle.table_part.specs.TablePart.{columns_of, sheets_of, row_count, cell_count}
-use Rattle.memory.specs.declared.StepAnswer.TheVariants.{Made}
 use Rattle.memory.specs.promises.Stack.{widths_to, stack_in}
 use Rattle.memory.specs.promises.Steps.{step_says, verdict, widths_of, fits, fits_in, Done}
 use Rattle.live_tables.specs.declared.Stack.{Stack}
-use Rattle.memory.specs.declared.Stepped.{Stepped}
+use Rattle.memory.specs.declared.StepError.{StepError}
+use Rattle.std.specs.Prelude.{Result, Ok}
 use Rattle.plan.specs.Steps.{check, make, too_many}
 use Rattle.plan.specs.Supply.{supplied}
 use Rattle.plan.specs.Table.{Table}
@@ -111,7 +111,7 @@ same-verdict (Apply column transform) tables others draws stack = refl
 same-verdict (Group keys aggregate column) tables others draws stack = refl
 same-verdict (Noise column) tables others draws stack = refl
 
-module _ {given : Given} (used : ℕ) (step : Step) {w : Memory} {stack : Stack} {done : Stepped} {after : Memory} (s : Steady given step w stack)
+module _ {given : Given} (used : ℕ) (step : Step) {w : Memory} {stack : Stack} {done : Result Stack StepError} {after : Memory} (s : Steady given step w stack)
     (t : Taken given.container (drop used given.draws) step w stack done after) where
   abbrev draws : List ℤ
   draws = drop used given.draws
@@ -120,19 +120,21 @@ module _ {given : Given} (used : ℕ) (step : Step) {w : Memory} {stack : Stack}
   fit = steps-fit draws step s ∙ same-fit draws step s ∙ s.fits-is
 
   -- what it answers
-  pub taken-says : step_says done.answer ≡ says (verdict step (left_given given used) (stack_in w stack))
+  pub taken-says : step_says done ≡ says (verdict step (left_given given used) (stack_in w stack))
   taken-says = t.answer fit ∙ ap says (same-verdict step (tables_of given.container) (prepared (year_given given) given) draws (stack_in w stack))
 
-  -- and with the overlays and the floor, where it has made its table
-  pub taken-done : done.answer ≡ Made → mark_room ≤ length w.marks → {labels : List ℕ} → labels ≡ after_step (year_given given) given.overlays step done.stack after.work.labels
-      → Done step (left_given given used) w stack done (memory_of after.work.values labels after.marks)
-  taken-done m room-is e =
-      let allowed : verdict step (left_given given used) (stack_in w stack) ≡ fine = says_is (sym taken-says ∙ ap step_says m) in
-      let plain = t.made fit (same-verdict step (tables_of given.container) (prepared (year_given given) given) draws (stack_in w stack) ∙ allowed) in
-      let over = made-overlaid (year_given given) given.container given.overlays s.accepted-is draws step (scans-there step s) w after stack done (omega (arith, room-is, t.kept.marks.as_many)) plain in
+-- and with the overlays and the floor, where it has made its table
+module _ {given : Given} (used : ℕ) (step : Step) {w : Memory} {stack made : Stack} {after : Memory} (s : Steady given step w stack)
+    (t : Taken given.container (drop used given.draws) step w stack (Ok made) after) where
+  pub taken-done : mark_room ≤ length w.marks → {labels : List ℕ} → labels ≡ after_step (year_given given) given.overlays step made after.work.labels
+      → Done step (left_given given used) w stack (Ok made) (memory_of after.work.values labels after.marks)
+  taken-done room-is e =
+      let allowed : verdict step (left_given given used) (stack_in w stack) ≡ fine = says_is (sym (taken-says used step s t)) in
+      let plain = t.made (fit used step s t) (same-verdict step (tables_of given.container) (prepared (year_given given) given) (drop used given.draws) (stack_in w stack) ∙ allowed) in
+      let over = made-overlaid (year_given given) given.container given.overlays s.accepted-is (drop used given.draws) step (scans-there step s) w after stack (Ok made) (omega (arith, room-is, t.kept.marks.as_many)) plain in
       rw e (record {
         misfit = λ f. absurd (true≢false (sym s.fits-is ∙ f));
-        answer = λ _. taken-says;
+        answer = λ _. taken-says used step s t;
         unmade = λ _ number row column v. absurd (never (sym v ∙ allowed));
         made = λ _ _. over.0;
         kept = record { work = kept_then t.kept.work over.1.work; marks = marks_then t.kept.marks over.1.marks };

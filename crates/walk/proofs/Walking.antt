@@ -18,11 +18,11 @@ use Rattle.cells.specs.promises.Work.{Memory, cells_in, room, mark_room, AllKept
 use Rattle.memory.specs.promises.Stack.{ready, Ready, slot, mark_slot, mark_part, no_table, table_in, tables_to, stack_in, widths_to, no_tables, live_at, live_table}
 use Rattle.live_tables.specs.declared.LiveTable.{LiveTable}
 use Rattle.memory.specs.declared.Refusal.{Refusal}
-use Rattle.memory.specs.promises.Steps.{step_says, verdict, widths_of, Done}
-use Rattle.memory.specs.declared.StepAnswer.{StepAnswer}
-use Rattle.memory.specs.declared.StepAnswer.TheVariants.{Made, Refused, DoesNotFit}
+use Rattle.memory.specs.promises.Steps.{error_says, verdict, widths_of, Done}
+use Rattle.memory.specs.declared.StepError.{StepError}
+use Rattle.memory.specs.declared.StepError.TheVariants as error
 use Rattle.live_tables.specs.declared.Stack.{Stack}
-use Rattle.memory.specs.declared.Stepped.{Stepped}
+use Rattle.std.specs.Prelude.{Ok, Err}
 use Rattle.plan.specs.Evaluate.{Outcome, Result, release, refuse, check_release, ending, behind, evaluate_from, evaluate}
 use Rattle.plan.specs.Supply.{Supply, supplied, without_draws}
 use Rattle.plan.specs.Table.{Each, Table, top, grid}
@@ -38,7 +38,7 @@ use Rattle.trace_lines.specs.promises.Lines.{with_line}
 use Rattle.demands.specs.Monitor.{evaluation, written}
 use Rattle.walk.specs.promises.Steady.{Steady}
 use Rattle.walk.specs.promises.Walk.{room_in, step_number, before, left_given, Going, finish, Walked}
-use Rattle.walk.specs.declared.WalkAnswer.TheVariants as answer
+use Rattle.walk.specs.declared.WalkRefusal.TheVariants as refusal
 use Rattle.accepted.proofs.AcceptedOperations.{operations-exist}
 use Rattle.accepted.proofs.AcceptedPlan.{steps-counted}
 use Rattle.demands.proofs.Prepared.{container-ok, placed-given}
@@ -222,17 +222,17 @@ module _ {given : Given} (ok : check_given given ≡ accepted) {w₀ : Memory} {
           ∙ ap (before g.lines) (ap (evaluate_from supply index live) (drop-next (plan_given given) index Union h) ∙ evaluate-next supply index live next rest)
 
       -- what a step answers that makes no table
-      module _ (given-answer : StepAnswer) {w' : Memory} (says_so : step_says given-answer ≡ says (verdict next supply live)) (kept-so : AllKept w w') where
+      module _ {wrong : StepError} {w' : Memory} (says_so : error_says wrong ≡ says (verdict next supply live)) (kept-so : AllKept w w') where
         -- a step always fits
-        pub go-fits : given-answer ≡ DoesNotFit → ⊥
-        go-fits e = never-unfit (sym (ap step_says e) ∙ says_so)
+        pub go-fits : wrong ≡ error.DoesNotFit → ⊥
+        go-fits e = never-unfit (sym (ap error_says e) ∙ says_so)
 
         -- a refused step: the evaluation is refused at it
-        pub go-refused : (refusal : Refusal) → given-answer ≡ Refused refusal → Walked given w₀ t₀ (answer.Refused index refusal) w' t
-        go-refused refusal e =
-            let v = verdicts refusal in
+        pub go-refused : (why : Refusal) → wrong ≡ error.Refused why → Walked given w₀ t₀ (Err (refusal.Step index why)) w' t
+        go-refused why e =
+            let v = verdicts why in
             let comes : evaluation (year_given given) given ≡ before g.lines (record { outcome = refuse v.number index v.row v.column; trace = [] })
-            = evaluates ∙ ap (λ (r : Verdict). before g.lines (ending r index (past supply index live next rest))) (says_is (sym says_so ∙ ap step_says e) ∙ v.is) in
+            = evaluates ∙ ap (λ (r : Verdict). before g.lines (ending r index (past supply index live next rest))) (says_is (sym says_so ∙ ap error_says e) ∙ v.is) in
             let traces : (evaluation (year_given given) given).trace ≡ g.lines = ap (λ (r : Result). r.trace) comes ∙ before-trace g.lines _ ∙ append-nil g.lines in (
               record {
                 long = long;
@@ -243,57 +243,53 @@ module _ {given : Given} (ok : check_given given ≡ accepted) {w₀ : Memory} {
               ap (λ (r : Result). r.outcome) comes ∙ before-outcome g.lines _ ∙ sym (v.tells (λ number row column. refuse number index row column)),
             )
 
-      module _ {done : Stepped} {w' : Memory} (d : Done next supply w stack done w') where
-        says_so : step_says done.answer ≡ says (verdict next supply live)
-        says_so = d.answer go-steady.fits-is
+      -- a step that has made its table, and its line behind those before it
+      module _ {made : Stack} {w' : Memory} (d : Done next supply w stack (Ok made) w') where
+        allowed : verdict next supply live ≡ fine
+        allowed = says_is (sym (d.answer go-steady.fits-is))
 
-        -- a step that has made its table, and its line behind those before it
-        module _ (m : done.answer ≡ Made) where
-          allowed : verdict next supply live ≡ fine
-          allowed = says_is (sym says_so ∙ ap step_says m)
+        after : stack_in w' made ≡ make next supply live ∷ drop (takes next) live
+        after = (d.made go-steady.fits-is allowed).tables-are
 
-          after : stack_in w' done.stack ≡ make next supply live ∷ drop (takes next) live
-          after = (d.made go-steady.fits-is allowed).tables-are
+        -- there were draws for it
+        pub go-drawn : (n : ℕ) → n ≡ draws_used next (length (top live).rows) → used + n ≤ length given.draws
+        go-drawn n e =
+            let few = draws-enough next (length supply.draws) live (or-fine-left _ _ allowed) in
+            omega (arith, e, few, length-drop used given.draws, g.drawn)
 
-          -- there were draws for it
-          pub go-drawn : (n : ℕ) → n ≡ draws_used next (length (top live).rows) → used + n ≤ length given.draws
-          go-drawn n e =
-              let few = draws-enough next (length supply.draws) live (or-fine-left _ _ allowed) in
-              omega (arith, e, few, length-drop used given.draws, g.drawn)
+        going_on : (t' : List ℕ) (n : ℕ) → n ≡ draws_used next (length (top live).rows) → t' ≡ with_line index (line_of next (top (stack_in w' made))) t
+            → Going given w₀ t₀ (suc index) (used + n) w' t' made
+        going_on t' n e a =
+            let line = line_of next (make next supply live) in
+            let count : length (g.lines ++ (line ∷ [])) ≡ length g.lines + 1 = length-append g.lines (line ∷ []) in
+            let onwards : supply_after next live supply ≡ left_given given (used + n) = ap (λ (k : ℕ). without_draws k supply) (sym e) ∙ used-more given used n in
+            record {
+              kept = all_then g.kept d.kept;
+              is-ready = is-ready (length w'.work.values) (length w'.work.labels) made (d.made go-steady.fits-is allowed).still;
+              labelled = subst (Each Labelled) (sym after) (make-labelled next supply live (tables-labelled given ok) g.labelled, each-drop Labelled (takes next) live g.labelled);
+              lines = g.lines ++ (line ∷ []);
+              finished = omega (arith, count, g.finished);
+              traced =
+                  a ∙ ap₂ (λ (n : ℕ) (s : List Table). with_line n (line_of next (top s)) t) (sym g.finished) after ∙ line-behind g.lines t t₀ g.traced line
+                  ∙ ap (λ (n : ℕ). flat_lines (g.lines ++ (line ∷ [])) ++ drop (4 * n) t₀) (sym count);
+              places =
+                  subst (λ (s : List ℕ). Placed (widths_of tables) s rest)
+                  (ap widths_of (sym after)) (placed-after next rest supply live places-next);
+              drawn = go-drawn n e;
+              onward =
+                  evaluates ∙ ap (λ (r : Verdict). before g.lines (ending r index (past supply index live next rest))) allowed ∙ sym (before_more g.lines line _)
+                  ∙ ap₂ (λ (p : Supply) (s : List Table). before (g.lines ++ (line ∷ [])) (evaluate_from p (suc index) s rest)) onwards (sym after);
+              to-come =
+                  g.to-come ∙ ap (stack_left supply live) (drop-next (plan_given given) index Union h) ∙ ap₂ (λ (p : Supply) (s : List Table). stack_left p s rest) onwards (sym after);
+            }
 
-          going_on : (t' : List ℕ) (n : ℕ) → n ≡ draws_used next (length (top live).rows) → t' ≡ with_line index (line_of next (top (stack_in w' done.stack))) t
-              → Going given w₀ t₀ (suc index) (used + n) w' t' done.stack
-          going_on t' n e a =
-              let line = line_of next (make next supply live) in
-              let count : length (g.lines ++ (line ∷ [])) ≡ length g.lines + 1 = length-append g.lines (line ∷ []) in
-              let onwards : supply_after next live supply ≡ left_given given (used + n) = ap (λ (k : ℕ). without_draws k supply) (sym e) ∙ used-more given used n in
-              record {
-                kept = all_then g.kept d.kept;
-                is-ready = is-ready (length w'.work.values) (length w'.work.labels) done.stack (d.made go-steady.fits-is allowed).still;
-                labelled = subst (Each Labelled) (sym after) (make-labelled next supply live (tables-labelled given ok) g.labelled, each-drop Labelled (takes next) live g.labelled);
-                lines = g.lines ++ (line ∷ []);
-                finished = omega (arith, count, g.finished);
-                traced =
-                    a ∙ ap₂ (λ (n : ℕ) (s : List Table). with_line n (line_of next (top s)) t) (sym g.finished) after ∙ line-behind g.lines t t₀ g.traced line
-                    ∙ ap (λ (n : ℕ). flat_lines (g.lines ++ (line ∷ [])) ++ drop (4 * n) t₀) (sym count);
-                places =
-                    subst (λ (s : List ℕ). Placed (widths_of tables) s rest)
-                    (ap widths_of (sym after)) (placed-after next rest supply live places-next);
-                drawn = go-drawn n e;
-                onward =
-                    evaluates ∙ ap (λ (r : Verdict). before g.lines (ending r index (past supply index live next rest))) allowed ∙ sym (before_more g.lines line _)
-                    ∙ ap₂ (λ (p : Supply) (s : List Table). before (g.lines ++ (line ∷ [])) (evaluate_from p (suc index) s rest)) onwards (sym after);
-                to-come =
-                    g.to-come ∙ ap (stack_left supply live) (drop-next (plan_given given) index Union h) ∙ ap₂ (λ (p : Supply) (s : List Table). stack_left p s rest) onwards (sym after);
-              }
-
-          pub go_on : (t' : List ℕ) (n : ℕ) → n ≡ draws_used next (length (top live).rows) → t' ≡ with_line index (line_of next (top (stack_in w' done.stack))) t
-              → Going given w₀ t₀ (index + 1) (used + n) w' t' done.stack
-          go_on t' n e a = subst (λ (i : ℕ). Going given w₀ t₀ i (used + n) w' t' done.stack) (sym (add-one index)) (going_on t' n e a)
+        pub go_on : (t' : List ℕ) (n : ℕ) → n ≡ draws_used next (length (top live).rows) → t' ≡ with_line index (line_of next (top (stack_in w' made))) t
+            → Going given w₀ t₀ (index + 1) (used + n) w' t' made
+        go_on t' n e a = subst (λ (i : ℕ). Going given w₀ t₀ i (used + n) w' t' made) (sym (add-one index)) (going_on t' n e a)
 
     -- all steps are finished, and one table is left
     pub go-end : (count : ℕ) → count ≡ length (plan_given given) → index ≡ count → {left : LiveTable} → left ≡ live_table stack 0
-        → Walked given w₀ t₀ (answer.Finished count left.rows left.columns) w t
+        → Walked given w₀ t₀ (Ok (record { steps = count; rows = left.rows; columns = left.columns })) w t
     unfolding live_table
     go-end count f e {left} l =
         let none : drop index (plan_given given) ≡ [] = ap (λ (n : ℕ). drop n (plan_given given)) (e ∙ f) ∙ drop-none (plan_given given) in

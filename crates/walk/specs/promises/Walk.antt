@@ -1,5 +1,6 @@
 -- The steps of a plan, taken one after the other over work memory.
-use Rattle.std.specs.Prelude.{ℕ, ◌*◌, ◌≤◌, ◌≡◌, Bool, true, false, List, [], ◌∷◌, ◌++◌, length, get_or, drop}
+use Rattle.std.specs.Prelude.{ℕ, ◌*◌, ◌≤◌, ◌≡◌, Bool, true, false, List, [], ◌∷◌, ◌++◌, ℤ, length, get_or, drop, Ok, Err}
+use Rattle.std.specs.Prelude.{Result as Answer}
 use Rattle.accepted.specs.Accepted.{Placed}
 use Rattle.input.specs.Answers.{input_tells}
 use Rattle.input.specs.Verdict.{accepted, rejected}
@@ -19,8 +20,13 @@ use Rattle.plan.specs.declared.Step.TheVariants.{Union}
 use Rattle.demands.specs.Given.{Given, year_given, check_given, plan_given, prepared, supply_given}
 use Rattle.demands.specs.Monitor.{evaluation, written}
 use Rattle.walk_slices.specs.promises.Slices.{walk_room}
-use Rattle.walk.specs.declared.WalkAnswer.{WalkAnswer}
-use Rattle.walk.specs.declared.WalkAnswer.TheVariants as answer
+use Rattle.walk.specs.declared.Finished.{Finished}
+use Rattle.walk.specs.declared.WalkRefusal.{WalkRefusal}
+use Rattle.walk.specs.declared.WalkRefusal.TheVariants as refusal
+
+-- what a run is given to read, the overlays in a list
+abbrev pub given_of : List ℕ → List ℤ → List (List ℕ) → Given
+given_of container draws overlays = record { container = container; draws = draws; overlays = overlays }
 
 -- work memory and the trace have the lengths that a walk needs
 abbrev pub room_in : Memory → List ℕ → Bool
@@ -73,11 +79,12 @@ pub record Left (given : Given) (work : Memory) (steps rows columns : ℕ) : Typ
   pub outcome : (evaluation (year_given given) given).outcome ≡ finish steps (table_in work 0 columns rows)
 
 -- What each answer means, of slices that held `work₀` and `trace₀` before and hold `work` and `trace` afterwards.
-abbrev pub Walked : Given → Memory → List ℕ → WalkAnswer → Memory → List ℕ → Type 0
-Walked given work₀ trace₀ answer.TooShort work trace = (room_in work₀ trace₀ ≡ false) × (work ≡ work₀) × (trace ≡ trace₀)
-Walked given work₀ trace₀ (answer.Input refusal) work trace =
-    (room_in work₀ trace₀ ≡ true) × (input_tells rejected refusal ≡ check_given given) × (work ≡ work₀) × (trace ≡ trace₀)
-Walked given work₀ trace₀ (answer.Refused step refusal) work trace =
+abbrev pub Walked : Given → Memory → List ℕ → Answer Finished WalkRefusal → Memory → List ℕ → Type 0
+Walked given work₀ trace₀ (Err refusal.TooShort) work trace = (room_in work₀ trace₀ ≡ false) × (work ≡ work₀) × (trace ≡ trace₀)
+Walked given work₀ trace₀ (Err (refusal.Input wrong)) work trace =
+    (room_in work₀ trace₀ ≡ true) × (input_tells rejected wrong ≡ check_given given) × (work ≡ work₀) × (trace ≡ trace₀)
+Walked given work₀ trace₀ (Err (refusal.Step step wrong)) work trace =
     Stepped given work₀ trace₀ work trace
-    × ((evaluation (year_given given) given).outcome ≡ refusal_tells (λ number row column. refuse number step row column) refusal)
-Walked given work₀ trace₀ (answer.Finished steps rows columns) work trace = Stepped given work₀ trace₀ work trace × Left given work steps rows columns
+    × ((evaluation (year_given given) given).outcome ≡ refusal_tells (λ number row column. refuse number step row column) wrong)
+Walked given work₀ trace₀ (Ok end) work trace =
+    Stepped given work₀ trace₀ work trace × Left given work end.steps end.rows end.columns
