@@ -12,9 +12,7 @@ pub fn cilunovay_check(container: &[u8], answer: &mut [u64]) -> u32
     if answer.len() < 2 {
         return 1;
     }
-    let found = container::check_input(container);
-    let numbers = check_numbers(found);
-    answer[0] = numbers[0];
-    answer[1] = numbers[1];
+    let numbers = check_numbers(container::check_input(container));
+    answer[..2].copy_from_slice(&numbers);
     numbers[0] as u32
 }

@@ -20,7 +20,6 @@ pub fn cilunovay_convert(
     }
     let told = conversion::convert(container, converted, offsets);
     let numbers = conversion_numbers(told);
-    answer[0] = numbers[0];
-    answer[1] = numbers[1];
+    answer[..2].copy_from_slice(&numbers);
     numbers[0] as u32
 }

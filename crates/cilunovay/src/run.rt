@@ -39,9 +39,6 @@ pub fn cilunovay_run(
         output, trace, text,
     );
     let numbers = run_numbers(told);
-    answer[0] = numbers[0];
-    answer[1] = numbers[1];
-    answer[2] = numbers[2];
-    answer[3] = numbers[3];
+    answer[..4].copy_from_slice(&numbers);
     numbers[0] as u32
 }

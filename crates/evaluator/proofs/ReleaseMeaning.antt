@@ -29,8 +29,9 @@ use Rattle.table_values.proofs.Laws.{table-fits, table-over, table-values}
 use Rattle.csv_text.specs.Text.{cut, text_of, table_text}
 use Rattle.csv_writer.specs.promises.Writing.{text_from}
 use Rattle.demands.specs.Answers.{Told, released, refused_state}
-use Rattle.release.specs.declared.ReleaseAnswer.{ReleaseAnswer}
-use Rattle.release.specs.declared.ReleaseAnswer.TheVariants as answer
+use Rattle.release.specs.declared.ReleaseRefusal.{ReleaseRefusal}
+use Rattle.release.specs.declared.ReleaseRefusal.TheVariants as refusal
+use Rattle.std.specs.Prelude.{Result, Ok, Err}
 use Rattle.release.specs.promises.Release.{release_says, bytes_told, bytes_after, output_after, export_after, after_fine, room_reply, release_reply, Releases}
 use Rattle.run_answers.specs.promises.Releases.{release_tells}
 use Rattle.walk.specs.promises.Walk.{finish}
@@ -155,7 +156,7 @@ module _ (w : Work) (all_marks : List ℕ) (rows columns steps : ℕ) (few : row
         by-verdict fine false e = rw e
         by-verdict (refused number row column) b e = refl
 
-    finished : {answer : ReleaseAnswer} {output₁ : List ℤ} {text₁ : List ℕ} (v : Verdict) → release_says answer ≡ says v
+    finished : {answer : Result ℕ ReleaseRefusal} {output₁ : List ℤ} {text₁ : List ℕ} (v : Verdict) → release_says answer ≡ says v
         → Releases (release_reply w output text rows columns) w.values output text rows columns answer output₁ text₁
         → Ends (with_text steps (length text) (finish steps table)) output text (answer_by rows columns steps v (bytes_told answer)) output₁ text₁
     finished {answer} {output₁} {text₁} v e r =
@@ -176,11 +177,11 @@ module _ (w : Work) (all_marks : List ℕ) (rows columns steps : ℕ) (few : row
     always-fits e = never-unfit (e ∙ replies)
 
     -- so it ends as the evaluation does, or with 51
-    pub release-ends : (answer : ReleaseAnswer) {output₁ : List ℤ} {text₁ : List ℕ}
+    pub release-ends : (answer : Result ℕ ReleaseRefusal) {output₁ : List ℤ} {text₁ : List ℕ}
         → Releases (release_reply w output text rows columns) w.values output text rows columns answer output₁ text₁
         → Ends (with_text steps (length text) (finish steps table)) output text (release_tells steps rows columns answer) output₁ text₁
-    release-ends (answer.Released bytes) r = finished fine refl r
-    release-ends (answer.StageLeft row column) r = finished (refused 35 row column) refl r
-    release-ends (answer.Over row column) r = finished (refused 36 row column) refl r
-    release-ends answer.NoRoom r = finished (refused 51 0 0) refl r
-    release-ends answer.DoesNotFit r = absurd (always-fits r.says_so)
+    release-ends (Ok bytes) r = finished fine refl r
+    release-ends (Err (refusal.StageLeft at)) r = finished (refused 35 at.row at.column) refl r
+    release-ends (Err (refusal.Over at)) r = finished (refused 36 at.row at.column) refl r
+    release-ends (Err refusal.NoRoom) r = finished (refused 51 0 0) refl r
+    release-ends (Err refusal.DoesNotFit) r = absurd (always-fits r.says_so)

@@ -20,12 +20,14 @@ use Rattle.evaluator.proofs.Ends.{Ends}
 use Rattle.memory.specs.Refusals.{refusal_tells}
 use Rattle.memory.specs.declared.Refusal.{Refusal}
 use Rattle.plan.specs.Evaluate.{refuse}
-use Rattle.release.specs.declared.ReleaseAnswer.{ReleaseAnswer}
+use Rattle.release.specs.declared.ReleaseRefusal.{ReleaseRefusal}
+use Rattle.std.specs.Prelude.{Result, Ok, Err}
 use Rattle.release.specs.promises.Release.{release_reply, Releases}
 use Rattle.run_answers.specs.promises.Releases.{release_tells}
 use Rattle.zeros.specs.Zeros.{filled}
 use Rattle.zeros.specs.promises.Zeros.{Cleared}
-use Rattle.walk.specs.declared.WalkAnswer.TheVariants.{Refused, Finished}
+use Rattle.walk.specs.declared.Finished.{Finished}
+use Rattle.walk.specs.declared.WalkRefusal.TheVariants.{Step}
 use Rattle.walk.specs.promises.Walk.{room_in, Stepped, Walked}
 use Rattle.input.proofs.Numbers.{input-tells}
 use Rattle.demands.proofs.Columns.{top-some}
@@ -81,7 +83,7 @@ module _ (given : Given) (w : Memory) (o : List ℤ) (t x : List ℕ) where
         ∙ ap (λ (told : Told). ended told lends) (n.tells refused_input)
         ∙ sym (input-run given lends n.number n.place enough-so (sym s.1 ∙ n.tells rejected))
 
-    pub step-refused : (step : ℕ) (refusal : Refusal) → Walked given w t (Refused step refusal) w₁ t₁
+    pub step-refused : (step : ℕ) (refusal : Refusal) → Walked given w t (Err (Step step refusal)) w₁ t₁
         → Evaluated given w o t x (refusal_tells (λ number row column. refused_state number step row column) refusal) w₁ o t₁ x
     step-refused step refusal s =
         let n = verdicts refusal in
@@ -92,7 +94,7 @@ module _ (given : Given) (w : Memory) (o : List ℤ) (t x : List ℕ) where
         }
 
     -- the table that is left has a column
-    some-columns : {steps rows columns : ℕ} → Walked given w t (Finished steps rows columns) w₁ t₁ → 1 ≤ columns
+    some-columns : {end : Finished} → Walked given w t (Ok end) w₁ t₁ → 1 ≤ end.columns
     some-columns s = rw s.1.table_is at (top-some (year_given given) given s.0.accepted-is)
 
     -- what a walk needs is still there
@@ -108,14 +110,14 @@ module _ (given : Given) (w : Memory) (o : List ℤ) (t x : List ℕ) where
         )
 
     -- the release of the table that is left
-    pub steps-released : (steps rows columns : ℕ) {told : Told} {answer : ReleaseAnswer} {o₁ : List ℤ} {x₁ : List ℕ} → Walked given w t (Finished steps rows columns) w₁ t₁
-        → Releases (release_reply w₁.work o x rows columns) w₁.work.values o x rows columns answer o₁ x₁ → told ≡ release_tells steps rows columns answer
+    pub steps-released : (end : Finished) {told : Told} {answer : Result ℕ ReleaseRefusal} {o₁ : List ℤ} {x₁ : List ℕ} → Walked given w t (Ok end) w₁ t₁
+        → Releases (release_reply w₁.work o x end.rows end.columns) w₁.work.values o x end.rows end.columns answer o₁ x₁ → told ≡ release_tells end.steps end.rows end.columns answer
         → Evaluated given w o t x told w₁ o₁ t₁ x₁
-    steps-released steps rows columns {answer = answer} s r e =
+    steps-released end {answer = answer} s r e =
         let n = still-long s.0 in
         record {
           stepped = s.0;
-          ends = rw (← s.1.all-taken, s.1.outcome, e) (release-ends w₁.work w₁.marks rows columns steps s.1.few-rows s.1.few-columns n.0 n.1 n.2 (some-columns s) o long x answer r);
+          ends = rw (← s.1.all-taken, s.1.outcome, e) (release-ends w₁.work w₁.marks end.rows end.columns end.steps s.1.few-rows s.1.few-columns n.0 n.1 n.2 (some-columns s) o long x answer r);
         }
 
     -- the evaluation, and then zeros

@@ -5,8 +5,8 @@ ghost use Rattle.demands.specs.Lent.{lent};
 ghost use Rattle.demands.specs.Monitor.{ended, monitor};
 ghost use Rattle.run_answers.specs.Answers.{run_says};
 
-use run_answers::RunAnswer;
-use walk::WalkAnswer;
+use run_answers::{Released, RunRefusal};
+use walk::WalkRefusal;
 
 // Evaluates a container's plan over the lent work slices, with draws for its NOISE steps and overlays composed onto its tables' labels. A release
 // writes its rows to the output's start and its text to the start of its slice; a release and a refusal of the evaluation write the lines of the
@@ -25,7 +25,7 @@ pub fn run(
     output: &mut [i64],
     trace: &mut [u32],
     text: &mut [u8],
-) -> RunAnswer
+) -> Result<Released, RunRefusal>
     ensures { ended (run_says result)
         (lent values.new labels.new marks.new output.new trace.new text.new)
         ≡ monitor (given container.now draws.now overlay_0.now overlay_1.now
@@ -34,22 +34,18 @@ pub fn run(
         text.old) }
 {
     if output.len() < 2048 {
-        return RunAnswer::TooShort;
+        return Err(RunRefusal::TooShort);
     }
-    let answer = match walk::walk(
-        container, draws, overlay_0, overlay_1, overlay_2, overlay_3, values, labels, marks, trace,
-    ) {
-        WalkAnswer::TooShort => {
-            return RunAnswer::TooShort;
+    let overlays = [overlay_0, overlay_1, overlay_2, overlay_3];
+    let answer = match walk::walk(container, draws, &overlays, values, labels, marks, trace) {
+        Ok(left) => {
+            let told = release::release(values, labels, output, text, left.rows, left.columns);
+            run_answers::of_release(told, left.steps, left.rows, left.columns)
         }
-        WalkAnswer::Input(refusal) => {
-            return RunAnswer::Input(refusal);
-        }
-        WalkAnswer::Refused(step, refusal) => RunAnswer::Step(step, refusal),
-        WalkAnswer::Finished(steps, rows, columns) => {
-            let told = release::release(values, labels, output, text, rows, columns);
-            run_answers::of_release(told, steps, rows, columns)
-        }
+        // Steps were taken, so work memory is cleared before this is answered; the two below come before the first step.
+        Err(WalkRefusal::Step(step, refusal)) => Err(RunRefusal::Step(step, refusal)),
+        Err(WalkRefusal::TooShort) => return Err(RunRefusal::TooShort),
+        Err(WalkRefusal::Input(refusal)) => return Err(RunRefusal::Input(refusal)),
     };
     zeros::clear_memory(values, labels, marks);
     answer

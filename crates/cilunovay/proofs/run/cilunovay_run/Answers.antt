@@ -3,7 +3,7 @@ use native.Mathlib.Omega.{arith}
 use lib.ListN.{length-set}
 use Rattle.demands.specs.Given.{Given, given}
 use Rattle.demands.specs.Lent.{lent}
-use Rattle.cilunovay.proofs.CallMeaning.{run_short, run_long}
+use Rattle.cilunovay.proofs.CallMeaning.{copied, run_short, run_long}
 use Rattle.cilunovay.proofs.run.cilunovay_run.Goals as goal
 use Rattle.cilunovay.proofs.run.cilunovay_run.Goals.{Start}
 
@@ -17,14 +17,9 @@ returns-then-answer-lt4 c =
     let a = c.args in
     run_short (given-at (goal.at.returns-then-answer-lt4 c).Start) (lent a.values.now a.labels.now a.marks.now a.output.now a.trace.now a.text.now) a.answer.now c.if-answer-lt4.true
 
-pub bounds-answer-1 : goal.bounds-answer-1
-bounds-answer-1 c = simp length-set (omega arith)
-
-pub bounds-answer-2 : goal.bounds-answer-2
-bounds-answer-2 c = simp length-set (omega arith)
-
 pub returns : goal.returns
 returns c =
     let a = c.args in
-    run_long (given-at (goal.at.returns c).Start) (lent a.values.now a.labels.now a.marks.now a.output.now a.trace.now a.text.now) a.answer.now c.if-answer-lt4.false
-    c.run-told.ensures c.run_numbers-numbers.ensures.value
+    let slices = lent a.values.now a.labels.now a.marks.now a.output.now a.trace.now a.text.now in
+    rw (copied c.args.answer.now c.if-answer-lt4.false c.copy_from_slice.ensures.after c.copy_from_slice.ensures.len)
+    (run_long (given-at (goal.at.returns c).Start) slices a.answer.now c.if-answer-lt4.false c.run-told.ensures c.run_numbers-numbers.ensures.value)
