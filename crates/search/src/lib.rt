@@ -23,15 +23,17 @@ pub fn not_clear(
     if !table_within(at, rows, columns, labels.len()) {
         return Err(DoesNotFit);
     }
-    for row in 0..rows {
+    let mut found = None;
+    'rows: for row in 0..rows {
         for column in 0..columns {
             let label = labels[at + row * columns + column];
             if ((mask >> column) % 2 == 1) & (label != 0) {
-                return Ok(Some(At { row, column }));
+                found = Some(At { row, column });
+                break 'rows;
             }
         }
     }
-    Ok(None)
+    Ok(found)
 }
 
 // Whether every label of a column is well-formed, of the table of so many rows and columns from place `at` on; false where the labels do

@@ -18,13 +18,15 @@ pub fn first_over(
     if !cells::table_within(at, rows, columns, values.len()) {
         return Err(DoesNotFit);
     }
-    for row in 0..rows {
+    let mut found = None;
+    'rows: for row in 0..rows {
         for column in 0..columns {
             let within = value::range::in_range(values[at + row * columns + column]);
             if !within {
-                return Ok(Some(At { row, column }));
+                found = Some(At { row, column });
+                break 'rows;
             }
         }
     }
-    Ok(None)
+    Ok(found)
 }
