@@ -1,7 +1,7 @@
 // A case and what its answer is made of, from the values that stand for them.
 use crate::reading::part;
-use cells::Place;
-use memory::{Refusal, Stack, StepAnswer, Stepped};
+use cells::{At, DoesNotFit};
+use memory::{Refusal, Stack, StepError};
 use plan::{Aggregate, Comparison, Operand, Step, Transform};
 use std::io;
 use value::range::OVER;
@@ -131,27 +131,22 @@ pub fn given<R: Print>(
 }
 
 // The tables after a step, or its refusal.
-pub fn after<R: Print>(rt: &R, values: &[i64], labels: &[u32], stepped: Stepped) -> io::Result<()> {
-    match stepped.answer {
-        StepAnswer::Made => live(rt, values, labels, stepped.stack),
-        StepAnswer::Refused(refusal) => refused(rt, refusal),
-        StepAnswer::DoesNotFit => print!(rt; " does not fit"),
+pub fn after<R: Print>(
+    rt: &R,
+    values: &[i64],
+    labels: &[u32],
+    stepped: Result<Stack, StepError>,
+) -> io::Result<()> {
+    match stepped {
+        Ok(stack) => live(rt, values, labels, stack),
+        Err(StepError::Refused(refusal)) => refused(rt, refusal),
+        Err(StepError::DoesNotFit) => print!(rt; " does not fit"),
     }
 }
 
 fn refused<R: Print>(rt: &R, refusal: Refusal) -> io::Result<()> {
-    match refusal {
-        Refusal::NotClear(row, column) => numbered(rt, 31, row, column),
-        Refusal::Forbidden(row, column) => numbered(rt, 32, row, column),
-        Refusal::OperandNotClear(row, column) => numbered(rt, 33, row, column),
-        Refusal::TooMany => numbered(rt, 34, 256, 0),
-        Refusal::NoDraw(row, column) => numbered(rt, 37, row, column),
-    }
-}
-
-fn numbered<R: Print>(rt: &R, number: usize, row: usize, column: usize) -> io::Result<()> {
-    print!(rt; " {number} at")?;
-    place_at(rt, row, column)
+    print!(rt; " {} at", refusal.number())?;
+    place_at(rt, refusal.row(), refusal.column())
 }
 
 fn place_at<R: Print>(rt: &R, row: usize, column: usize) -> io::Result<()> {
@@ -159,11 +154,11 @@ fn place_at<R: Print>(rt: &R, row: usize, column: usize) -> io::Result<()> {
 }
 
 // What a search finds.
-pub fn place<R: Print>(rt: &R, found: Place) -> io::Result<()> {
+pub fn place<R: Print>(rt: &R, found: Result<Option<At>, DoesNotFit>) -> io::Result<()> {
     match found {
-        Place::At(row, column) => place_at(rt, row, column),
-        Place::Nowhere => print!(rt; " nowhere"),
-        Place::DoesNotFit => print!(rt; " does not fit"),
+        Ok(Some(at)) => place_at(rt, at.row, at.column),
+        Ok(None) => print!(rt; " nowhere"),
+        Err(DoesNotFit) => print!(rt; " does not fit"),
     }
 }
 
