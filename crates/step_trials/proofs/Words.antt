@@ -1,7 +1,9 @@
 -- Laws of the words of a text, for the loops that read them. Assumes nothing.
 use Rattle.std.proofs.Common.{◌≡◌, ℕ, zero, suc, ◌+◌, ◌-◌, ◌<◌, ◌≤◌, cond, ◌&&◌, eqb, List, [], ◌∷◌, length, get_or, drop, sym, refl, ap, ◌∙◌, add-one, arith, drop-cons, drop-drop, eq-eqb, ne_eqb}
 use lib.Pointwise.{pointwise}
-use Rattle.step_trials.specs.Words.{count_of, index_of, part_of, same, with_digit, with_digits, word_fits, words_fit, shaped, place_from}
+use Rattle.step_trials.specs.Words.{count_of, index_of, part_of, same, with_digit, with_digits, word_fits, words_fit, shaped, first_of}
+use Rattle.std.specs.Prelude.{Option, None, Some}
+use denote.Ref.{Bor}
 
 -- what is left of a text begins with its next byte
 pub count_next : (byte : ℕ) (text : List ℕ) (i : ℕ) → i < length text → get_or text i 0 ≡ byte → count_of byte (drop i text) ≡ suc (count_of byte (drop (i + 1) text))
@@ -12,10 +14,16 @@ pub count_skip : (byte : ℕ) (text : List ℕ) (i : ℕ) → i < length text �
 unfolding count_of
 count_skip byte text i h e = rw (add-one, drop-cons text i 0, ne_eqb _ _ e)
 
-pub digits_next : (base number : ℕ) (word : List ℕ) (i : ℕ) → i < length word
+pub digits_next : (base : ℕ) (number : Option ℕ) (word : List ℕ) (i : ℕ) → i < length word
     → with_digits base number (drop i word) ≡ with_digits base (with_digit base number (get_or word i 0)) (drop (i + 1) word)
 unfolding with_digits
 digits_next base number word i h = rw (add-one, drop-cons word i 0)
+
+-- no number has no number with more digits
+pub digits_none : (base : ℕ) (word : List ℕ) → with_digits base None word ≡ None
+unfolding with_digits with_digit
+digits_none base [] = refl
+digits_none base (byte ∷ word) = digits_none base word
 
 pub nothing_left : {A : Type 0} (l : List A) (n : ℕ) → length l ≤ n → drop n l ≡ []
 nothing_left [] zero h = refl
@@ -70,10 +78,7 @@ words_next (suc index) text shape h =
     rw e
 
 -- one shape, and those behind it
-pub place_next : (left index byte : ℕ) (text shapes : List ℕ) → 0 < left
-    → place_from left index byte text shapes ≡ cond (shaped text (part_of byte index shapes)) index (place_from (left - 1) (index + 1) byte text shapes)
-unfolding place_from
-place_next zero index byte text shapes h = absurd (omega arith)
-place_next (suc left) index byte text shapes h =
-    let e : suc left - 1 ≡ left = omega arith in
-    rw (e, add-one)
+pub first_next : {T : Type 0} (text : List ℕ) (table : List (Bor (List ℕ) × T)) (i : ℕ) (entry : Bor (List ℕ) × T) → i < length table → get_or table i entry ≡ entry
+    → first_of text (drop i table) ≡ cond (shaped text entry.0.now) (Some entry.1) (first_of text (drop (i + 1) table))
+unfolding first_of
+first_next text table i entry h e = rw (add-one, drop-cons table i entry, e)

@@ -1,219 +1,219 @@
 // The case of a line, by the words before its colon.
-ghost use Rattle.std.specs.Prelude.{◌≡◌};
-ghost use Rattle.step_trials.specs.Words.{number_of, part_of};
+ghost use Rattle.std.specs.Prelude.{◌≡◌, unwrap_or};
+ghost use Rattle.step_trials.specs.Words.{short_of, part_of};
 
-use crate::printing::unreadable;
-use crate::reading::{NONE, bits, count, number, part, place, same, small};
-use crate::tables::{decode, run};
+use crate::reading::{bits, count, first, number, part, same, short};
 use plan::{Aggregate, Comparison, Operand, Step, Transform};
-use std::io;
+use std::alloc::{AllocError, Global};
 use value::pattern::signed;
 
-// A step; a NOISE of a column, with how many draws and these, at most four; or, by the number of its shape, a container, stages left, first
-// OVER, a trace line, so many values from a place on as an output, or memory set to zero.
-#[derive(Clone, Copy)]
+// A step, SCAN with the bytes of its container; a NOISE of a column, with its draws; or a container, stages left, first OVER, a trace line, so many values
+// from a place on as an output, or memory set to zero.
+#[derive(Drop)]
 pub enum Case {
-    Step(Step),
-    Noise(usize, usize, i64, i64, i64, i64),
-    Other(usize, usize, usize),
+    Step(Step, Vec<u8>),
+    Noise(usize, Vec<i64>),
+    Container(Vec<u8>),
+    StagesLeft,
+    FirstOver,
+    Line(usize),
+    Output(usize, usize),
+    Clear,
 }
 
-// Reads a case, and runs it. In a shape a `#` stands for a number, a `*` for a word that is read later.
-pub fn read<R: Print>(rt: &R, line: &[u8], container: &[u8]) -> io::Result<()> {
+// What the words before a colon look like. There a `#` stands for a number, a `*` for a word that is read later.
+#[derive(Clone, Copy)]
+enum Shape {
+    Union,
+    Join,
+    Keep,
+    FilterByColumn,
+    ApplyColumn,
+    Filter,
+    Cut,
+    Apply,
+    Group,
+    Scan,
+    Container,
+    StagesLeft,
+    FirstOver,
+    Line,
+    Output,
+    Clear,
+    Noise,
+}
+
+fn shape_of(head: &[u8]) -> Option<Shape> {
+    first(
+        head,
+        &[
+            ("UNION", Shape::Union),
+            ("JOIN # = #", Shape::Join),
+            ("KEEP #", Shape::Keep),
+            ("FILTER # * column #", Shape::FilterByColumn),
+            ("APPLY # * column #", Shape::ApplyColumn),
+            ("FILTER # * *", Shape::Filter),
+            ("APPLY # cut #", Shape::Cut),
+            ("APPLY # * *", Shape::Apply),
+            ("GROUP # * #", Shape::Group),
+            ("SCAN # of # bytes", Shape::Scan),
+            ("container *", Shape::Container),
+            ("stages left", Shape::StagesLeft),
+            ("first OVER", Shape::FirstOver),
+            ("line #", Shape::Line),
+            ("output of # from #", Shape::Output),
+            ("clear#", Shape::Clear),
+            ("NOISE # with *", Shape::Noise),
+        ],
+    )
+}
+
+// Reads a case, with the last line that has a container; or nothing, where a word can't be read.
+pub fn read(alloc: Global, line: &[u8], container: &[u8]) -> Result<Option<Case>, AllocError> {
     let head = part(line, b':', 0);
-    let shapes =
-        b"UNION\nJOIN # = #\nKEEP #\nFILTER # * column #\nAPPLY # * column #\nFILTER # * *\nAPPLY # cut #\nAPPLY # * *\nGROUP # * #\nSCAN # of # bytes\ncontainer *\nstages left\nfirst OVER\nline #\noutput of # from #\nclear#\nNOISE # with *\n";
-    let shape = place(b'\n', head, shapes);
-    let a = field(head, 1);
-    let b = field(head, 3);
-    match shape {
-        0 => step(rt, line, Step::Union),
-        1 => step(rt, line, Step::Join { left: a, right: b }),
-        2 => step(
-            rt,
-            line,
-            Step::Keep {
-                mask: small(a as u64),
-            },
-        ),
-        3 => filter(rt, line, head, a, Operand::Column(field(head, 4))),
-        4 => apply(rt, line, head, a, Operand::Column(field(head, 4))),
-        5 | 7 => constant(rt, line, head, shape, bits(part(head, b' ', 3))),
-        6 => transform(rt, line, a, Transform::Cut(small(b as u64))),
-        8 => group(rt, line, head, small(a as u64), b),
-        9 => decode(
-            rt,
-            line,
-            part(container, b' ', 1),
-            b,
-            Case::Step(Step::Scan { table: a }),
-        ),
-        10 => decode(
-            rt,
-            line,
-            part(line, b' ', 1),
-            part(line, b' ', 1).len() / 2,
-            Case::Other(shape, 0, 0),
-        ),
-        16 => noise(rt, line, a, part(head, b' ', 3)),
-        _ => other(rt, line, head, shape),
-    }
-}
-
-// NOISE with the draws that a word has, parted by commas, or with none.
-fn noise<R: Print>(rt: &R, line: &[u8], column: usize, word: &[u8]) -> io::Result<()> {
-    let draws = if same(word, b"none") {
-        0
-    } else {
-        count(word, b',').wrapping_add(1)
+    let Some(shape) = shape_of(head) else {
+        return Ok(None);
     };
-    let a = draw(word, draws, 0);
-    let b = draw(word, draws, 1);
-    let c = draw(word, draws, 2);
-    let d = draw(word, draws, 3);
-    if (4 < draws) | (a == NONE) | (b == NONE) | (c == NONE) | (d == NONE) {
-        return unreadable(rt, line);
-    }
-    let case = Case::Noise(column, draws, signed(a), signed(b), signed(c), signed(d));
-    run(rt, line, line, 0, case)
+    Ok(match shape {
+        Shape::Scan => {
+            let step = Step::Scan {
+                table: field(head, 1),
+            };
+            decode(alloc, part(container, b' ', 1), field(head, 3))?.map(|bytes| Case::Step(
+                step, bytes,
+            ))
+        }
+        Shape::Container => {
+            let digits = part(line, b' ', 1);
+            decode(alloc, digits, digits.len() / 2)?.map(|bytes| Case::Container(bytes))
+        }
+        Shape::Noise => {
+            let column = field(head, 1);
+            draws(alloc, part(head, b' ', 3))?.map(|draws| Case::Noise(column, draws))
+        }
+        Shape::StagesLeft => Some(Case::StagesLeft),
+        Shape::FirstOver => Some(Case::FirstOver),
+        Shape::Line => Some(Case::Line(field(head, 1))),
+        Shape::Output => Some(Case::Output(field(head, 2), field(head, 4))),
+        Shape::Clear => Some(Case::Clear),
+        _ => step(shape, head).map(|step| Case::Step(step, Vec::new(alloc))),
+    })
 }
 
-// The bits of one of so many draws, and 0 past the last.
-fn draw(word: &[u8], draws: usize, index: usize) -> u64 {
-    if index < draws {
-        bits(part(word, b',', index))
+// So many bytes, of two digits each; at most 128.
+fn decode(alloc: Global, digits: &[u8], count: usize) -> Result<Option<Vec<u8>>, AllocError> {
+    let mut bytes = Vec::new(alloc);
+    for pair in digits.chunks_exact(2).take(count) {
+        match number(16, pair) {
+            Some(byte) if byte < 256 => bytes.push(byte as u8)?,
+            _ => return Ok(None),
+        }
+    }
+    Ok(if count <= 128 && bytes.len() == count {
+        Some(bytes)
     } else {
-        0
-    }
+        None
+    })
 }
 
-// A case that is no step. It has two numbers at most.
-fn other<R: Print>(rt: &R, line: &[u8], head: &[u8], shape: usize) -> io::Result<()> {
-    match shape {
-        11 | 12 | 15 => run(rt, line, line, 0, Case::Other(shape, 0, 0)),
-        13 => run(rt, line, line, 0, Case::Other(shape, field(head, 1), 0)),
-        14 => run(
-            rt,
-            line,
-            line,
-            0,
-            Case::Other(shape, field(head, 2), field(head, 4)),
-        ),
-        _ => unreadable(rt, line),
+// The draws that a word has, parted by commas, at most four; or none.
+fn draws(alloc: Global, word: &[u8]) -> Result<Option<Vec<i64>>, AllocError> {
+    let mut draws = Vec::new(alloc);
+    if same(word, b"none") {
+        return Ok(Some(draws));
     }
+    if 4 <= count(word, b',') {
+        return Ok(None);
+    }
+    for draw in word.split(|byte| *byte == b',') {
+        match bits(draw) {
+            Some(bits) => draws.push(signed(bits))?,
+            None => return Ok(None),
+        }
+    }
+    Ok(Some(draws))
 }
 
-// The number that a word is.
+// The number that a word is, where the shape has one there.
 fn field(head: &[u8], index: usize) -> usize
-    ensures { result ≡ number_of 10 (part_of 32 index head.now) }
+    ensures { result ≡ unwrap_or (short_of 10 (part_of 32 index head.now)) 0 }
 {
-    number(10, part(head, b' ', index)) as usize
+    short(10, part(head, b' ', index)).unwrap_or(0) as usize
 }
 
-fn step<R: Print>(rt: &R, line: &[u8], step: Step) -> io::Result<()> {
-    run(rt, line, line, 0, Case::Step(step))
-}
-
-// FILTER or APPLY with a constant.
-fn constant<R: Print>(rt: &R, line: &[u8], head: &[u8], shape: usize, bits: u64) -> io::Result<()> {
-    if bits == NONE {
-        return unreadable(rt, line);
-    }
-    let operand = Operand::Constant(signed(bits));
-    if shape == 5 {
-        filter(rt, line, head, field(head, 1), operand)
-    } else {
-        apply(rt, line, head, field(head, 1), operand)
-    }
-}
-
-fn filter<R: Print>(
-    rt: &R,
-    line: &[u8],
-    head: &[u8],
-    column: usize,
-    operand: Operand,
-) -> io::Result<()> {
-    match place(b' ', part(head, b' ', 2), b"= != < <= > >= ") {
-        0 => compare(rt, line, column, Comparison::Equal, operand),
-        1 => compare(rt, line, column, Comparison::Unequal, operand),
-        2 => compare(rt, line, column, Comparison::Less, operand),
-        3 => compare(rt, line, column, Comparison::AtMost, operand),
-        4 => compare(rt, line, column, Comparison::Greater, operand),
-        5 => compare(rt, line, column, Comparison::AtLeast, operand),
-        _ => unreadable(rt, line),
-    }
-}
-
-fn compare<R: Print>(
-    rt: &R,
-    line: &[u8],
-    column: usize,
-    comparison: Comparison,
-    operand: Operand,
-) -> io::Result<()> {
-    step(
-        rt,
-        line,
-        Step::Filter {
+// The step of a shape, but for SCAN and NOISE.
+fn step(shape: Shape, head: &[u8]) -> Option<Step> {
+    let column = field(head, 1);
+    match shape {
+        Shape::Union => Some(Step::Union),
+        Shape::Join => Some(Step::Join {
+            left: column,
+            right: field(head, 3),
+        }),
+        Shape::Keep => Some(Step::Keep {
+            mask: short(10, part(head, b' ', 1))?,
+        }),
+        Shape::FilterByColumn => filter(head, Operand::Column(field(head, 4))),
+        Shape::Filter => filter(head, Operand::Constant(constant(head)?)),
+        Shape::ApplyColumn => apply(head, Operand::Column(field(head, 4))),
+        Shape::Apply => apply(head, Operand::Constant(constant(head)?)),
+        Shape::Cut => Some(Step::Apply {
             column,
-            comparison,
-            operand,
-        },
-    )
-}
-
-fn apply<R: Print>(
-    rt: &R,
-    line: &[u8],
-    head: &[u8],
-    column: usize,
-    operand: Operand,
-) -> io::Result<()> {
-    match place(b' ', part(head, b' ', 2), b"add sub band ") {
-        0 => transform(rt, line, column, Transform::Add(operand)),
-        1 => transform(rt, line, column, Transform::Sub(operand)),
-        2 => band(rt, line, column, operand),
-        _ => unreadable(rt, line),
+            transform: Transform::Cut(short(10, part(head, b' ', 3))?),
+        }),
+        Shape::Group => Some(Step::Group {
+            keys: short(10, part(head, b' ', 1))?,
+            aggregate: aggregate(part(head, b' ', 2))?,
+            column: field(head, 3),
+        }),
+        _ => None,
     }
 }
 
-fn band<R: Print>(rt: &R, line: &[u8], column: usize, operand: Operand) -> io::Result<()> {
-    match operand {
-        Operand::Constant(width) => transform(rt, line, column, Transform::Band(width)),
-        Operand::Column(_) => unreadable(rt, line),
+fn constant(head: &[u8]) -> Option<i64> {
+    bits(part(head, b' ', 3)).map(signed)
+}
+
+fn filter(head: &[u8], operand: Operand) -> Option<Step> {
+    Some(Step::Filter {
+        column: field(head, 1),
+        comparison: comparison(part(head, b' ', 2))?,
+        operand,
+    })
+}
+
+fn apply(head: &[u8], operand: Operand) -> Option<Step> {
+    let transform = match (part(head, b' ', 2), operand) {
+        (b"add", operand) => Transform::Add(operand),
+        (b"sub", operand) => Transform::Sub(operand),
+        (b"band", Operand::Constant(width)) => Transform::Band(width),
+        _ => return None,
+    };
+    Some(Step::Apply {
+        column: field(head, 1),
+        transform,
+    })
+}
+
+fn comparison(word: &[u8]) -> Option<Comparison> {
+    match word {
+        b"=" => Some(Comparison::Equal),
+        b"!=" => Some(Comparison::Unequal),
+        b"<" => Some(Comparison::Less),
+        b"<=" => Some(Comparison::AtMost),
+        b">" => Some(Comparison::Greater),
+        b">=" => Some(Comparison::AtLeast),
+        _ => None,
     }
 }
 
-fn transform<R: Print>(rt: &R, line: &[u8], column: usize, transform: Transform) -> io::Result<()> {
-    step(rt, line, Step::Apply { column, transform })
-}
-
-fn group<R: Print>(rt: &R, line: &[u8], head: &[u8], keys: u32, column: usize) -> io::Result<()> {
-    match place(b' ', part(head, b' ', 2), b"count sum min max avg ") {
-        0 => aggregate(rt, line, keys, Aggregate::Count, column),
-        1 => aggregate(rt, line, keys, Aggregate::Sum, column),
-        2 => aggregate(rt, line, keys, Aggregate::Min, column),
-        3 => aggregate(rt, line, keys, Aggregate::Max, column),
-        4 => aggregate(rt, line, keys, Aggregate::Avg, column),
-        _ => unreadable(rt, line),
+fn aggregate(word: &[u8]) -> Option<Aggregate> {
+    match word {
+        b"count" => Some(Aggregate::Count),
+        b"sum" => Some(Aggregate::Sum),
+        b"min" => Some(Aggregate::Min),
+        b"max" => Some(Aggregate::Max),
+        b"avg" => Some(Aggregate::Avg),
+        _ => None,
     }
-}
-
-fn aggregate<R: Print>(
-    rt: &R,
-    line: &[u8],
-    keys: u32,
-    aggregate: Aggregate,
-    column: usize,
-) -> io::Result<()> {
-    step(
-        rt,
-        line,
-        Step::Group {
-            keys,
-            aggregate,
-            column,
-        },
-    )
 }

@@ -15,27 +15,26 @@ use crate::reading::{part, same};
 use std::io;
 
 fn main(rt: HostRuntime) -> io::Result<()> {
-    let mut input = [0u8; 65536];
-    let length = arguments::read_full(&mut rt.stdin(), &mut input)?;
-    lines(&rt, &input[..length])
-}
-
-// Runs the lines, one after the other, each with the last container before it.
-fn lines<R: Print>(rt: &R, input: &[u8]) -> io::Result<()> {
+    let input = arguments::reader_bytes(rt.alloc(), &mut rt.stdin(), 65536)?;
     let mut container = &input[..0];
-    for text in input.split(|byte| *byte == b'\n') {
-        if same(part(text, b' ', 0), b"container") {
-            container = text;
+    for line in input.split(|byte| *byte == b'\n') {
+        if same(part(line, b' ', 0), b"container") {
+            container = line;
         }
-        line(rt, text, container)?;
+        if !line.is_empty() && line[0] != b'#' {
+            trial(&rt, line, container)?;
+        }
     }
     Ok(())
 }
 
-// A line of the input: nothing, or a case.
-fn line<R: Print>(rt: &R, line: &[u8], container: &[u8]) -> io::Result<()> {
-    if line.is_empty() || line[0] == b'#' {
-        return Ok(());
+// Runs the case of a line, with the last line that has a container.
+fn trial<R: Print + AllocGlobal>(rt: &R, line: &[u8], container: &[u8]) -> io::Result<()> {
+    let behind = part(line, b':', 0).len().wrapping_add(2);
+    let case = cases::read(rt.alloc(), line, container)?;
+    let work = tables::load(rt.alloc(), line.get(behind..).unwrap_or(&[]))?;
+    match (case, work) {
+        (Some(case), Some(work)) => answers::print(rt, case, work),
+        _ => printing::unreadable(rt, line),
     }
-    cases::read(rt, line, container)
 }

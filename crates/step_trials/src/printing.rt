@@ -1,9 +1,9 @@
-// A case and what its answer is made of, from the values that stand for them.
-use crate::reading::part;
+// A case and what its answer is made of, as they are printed.
+use crate::tables::Work;
 use cells::{At, DoesNotFit};
-use memory::{Refusal, Stack, StepError};
+use memory::Refusal;
 use plan::{Aggregate, Comparison, Operand, Step, Transform};
-use std::io;
+use std::{fmt, io};
 use value::range::OVER;
 
 // A line that can't be read.
@@ -14,244 +14,267 @@ pub fn unreadable<R: Print>(rt: &R, line: &[u8]) -> io::Result<()> {
 }
 
 // A step with its fields; SCAN has so many bytes of a container.
-pub fn print_step<R: Print>(rt: &R, step: Step, bytes: usize) -> io::Result<()> {
-    let names = b" SCAN UNION JOIN FILTER KEEP APPLY GROUP NOISE";
-    rt.write_all(part(names, b' ', kinds::kind_of(step) as usize))?;
-    match step {
-        Step::Scan { table } => print!(rt; " {table} of {bytes} bytes"),
-        Step::Union => Ok(()),
-        Step::Join { left, right } => print!(rt; " {left} = {right}"),
-        Step::Filter {
-            column,
-            comparison,
-            operand,
-        } => {
-            print!(rt; " {column}")?;
-            sign(rt, comparison)?;
-            second(rt, operand)
+#[derive(Clone, Copy)]
+pub struct Shown {
+    pub step: Step,
+    pub bytes: usize,
+}
+
+impl fmt::Display for Shown {
+    fn fmt<W: fmt::Write>(&self, f: &mut fmt::Formatter<W>) -> fmt::Result {
+        match self.step {
+            Step::Scan { table } => write!(f, "SCAN {table} of {} bytes", self.bytes),
+            Step::Union => write!(f, "UNION"),
+            Step::Join { left, right } => write!(f, "JOIN {left} = {right}"),
+            Step::Filter {
+                column,
+                comparison,
+                operand,
+            } => write!(f, "FILTER {column} {}{}", sign(comparison), Second(operand)),
+            Step::Keep { mask } => write!(f, "KEEP {mask}"),
+            Step::Apply { column, transform } => write!(f, "APPLY {column}{}", Changed(transform)),
+            Step::Group {
+                keys,
+                aggregate,
+                column,
+            } => write!(f, "GROUP {keys} {} {column}", summary(aggregate)),
+            Step::Noise { column } => write!(f, "NOISE {column}"),
         }
-        Step::Keep { mask } => print!(rt; " {mask}"),
-        Step::Apply { column, transform } => {
-            print!(rt; " {column}")?;
-            operation(rt, transform)
-        }
-        Step::Group {
-            keys,
-            aggregate,
-            column,
-        } => {
-            print!(rt; " {keys}")?;
-            summary(rt, aggregate)?;
-            print!(rt; " {column}")
-        }
-        Step::Noise { column } => print!(rt; " {column}"),
     }
 }
 
-fn sign<R: Print>(rt: &R, comparison: Comparison) -> io::Result<()> {
+fn sign(comparison: Comparison) -> &'static str {
     match comparison {
-        Comparison::Equal => print!(rt; " ="),
-        Comparison::Unequal => print!(rt; " !="),
-        Comparison::Less => print!(rt; " <"),
-        Comparison::AtMost => print!(rt; " <="),
-        Comparison::Greater => print!(rt; " >"),
-        Comparison::AtLeast => print!(rt; " >="),
+        Comparison::Equal => "=",
+        Comparison::Unequal => "!=",
+        Comparison::Less => "<",
+        Comparison::AtMost => "<=",
+        Comparison::Greater => ">",
+        Comparison::AtLeast => ">=",
     }
 }
 
-fn summary<R: Print>(rt: &R, aggregate: Aggregate) -> io::Result<()> {
-    let code = operations::aggregate_code(aggregate) as usize;
-    print!(rt; " ")?;
-    rt.write_all(part(b"count sum min max avg", b' ', code))
-}
-
-fn operation<R: Print>(rt: &R, transform: Transform) -> io::Result<()> {
-    let code = operations::transform_code(transform) as usize;
-    print!(rt; " ")?;
-    rt.write_all(part(b"add sub cut band", b' ', code))?;
-    match transform {
-        Transform::Add(operand) => second(rt, operand),
-        Transform::Sub(operand) => second(rt, operand),
-        Transform::Cut(digits) => print!(rt; " {digits}"),
-        Transform::Band(width) => value(rt, width),
+fn summary(aggregate: Aggregate) -> &'static str {
+    match aggregate {
+        Aggregate::Count => "count",
+        Aggregate::Sum => "sum",
+        Aggregate::Min => "min",
+        Aggregate::Max => "max",
+        Aggregate::Avg => "avg",
     }
 }
 
-fn second<R: Print>(rt: &R, operand: Operand) -> io::Result<()> {
-    match operand {
-        Operand::Constant(constant) => value(rt, constant),
-        Operand::Column(column) => print!(rt; " column {column}"),
+// What APPLY does.
+#[derive(Clone, Copy)]
+struct Changed(Transform);
+
+impl fmt::Display for Changed {
+    fn fmt<W: fmt::Write>(&self, f: &mut fmt::Formatter<W>) -> fmt::Result {
+        match self.0 {
+            Transform::Add(operand) => write!(f, " add{}", Second(operand)),
+            Transform::Sub(operand) => write!(f, " sub{}", Second(operand)),
+            Transform::Cut(digits) => write!(f, " cut {digits}"),
+            Transform::Band(width) => write!(f, " band{}", Value(width)),
+        }
+    }
+}
+
+// The second operand.
+#[derive(Clone, Copy)]
+struct Second(Operand);
+
+impl fmt::Display for Second {
+    fn fmt<W: fmt::Write>(&self, f: &mut fmt::Formatter<W>) -> fmt::Result {
+        match self.0 {
+            Operand::Constant(constant) => write!(f, "{}", Value(constant)),
+            Operand::Column(column) => write!(f, " column {column}"),
+        }
     }
 }
 
 // The draws of a NOISE.
-pub fn with<R: Print>(rt: &R, draws: &[i64]) -> io::Result<()> {
-    print!(rt; " with")?;
-    if draws.is_empty() {
-        return print!(rt; " none");
-    }
-    for (index, number) in draws.iter().enumerate() {
-        draw(rt, index, *number)?;
-    }
-    Ok(())
-}
+#[derive(Drop)]
+pub struct Draws<'a>(pub &'a [i64]);
 
-fn draw<R: Print>(rt: &R, index: usize, draw: i64) -> io::Result<()> {
-    if index == 0 {
-        print!(rt; " {draw}")
-    } else {
-        print!(rt; ",{draw}")
+impl fmt::Display for Draws<'_> {
+    fn fmt<W: fmt::Write>(&self, f: &mut fmt::Formatter<W>) -> fmt::Result {
+        let Some((first, others)) = self.0.split_first() else {
+            return write!(f, " with none");
+        };
+        write!(f, " with {first}")?;
+        for draw in others {
+            write!(f, ",{draw}")?;
+        }
+        Ok(())
     }
 }
 
 // What a case is given: the values, labels and marks that are lent, where they are too few, and its tables.
-pub fn given<R: Print>(
-    rt: &R,
-    values: &[i64],
-    labels: &[u32],
-    marks: &[u64],
-    stack: Stack,
-) -> io::Result<()> {
-    print!(rt; ":")?;
-    if values.len() < 8192 {
-        print!(rt; " {} values,", values.len())?;
-    }
-    if labels.len() < 8192 {
-        print!(rt; " {} labels,", labels.len())?;
-    }
-    if marks.len() < 1024 {
-        print!(rt; " {} marks,", marks.len())?;
-    }
-    live(rt, values, labels, stack)?;
-    match stack.depth {
-        0 => print!(rt; " no tables gives"),
-        1..=3 => print!(rt; " gives"),
-        _ => print!(rt; "; one more gives"),
-    }
-}
+#[derive(Drop)]
+pub struct Given<'a>(pub &'a Work);
 
-// The tables after a step, or its refusal.
-pub fn after<R: Print>(
-    rt: &R,
-    values: &[i64],
-    labels: &[u32],
-    stepped: Result<Stack, StepError>,
-) -> io::Result<()> {
-    match stepped {
-        Ok(stack) => live(rt, values, labels, stack),
-        Err(StepError::Refused(refusal)) => refused(rt, refusal),
-        Err(StepError::DoesNotFit) => print!(rt; " does not fit"),
-    }
-}
-
-fn refused<R: Print>(rt: &R, refusal: Refusal) -> io::Result<()> {
-    print!(rt; " {} at", refusal.number())?;
-    place_at(rt, refusal.row(), refusal.column())
-}
-
-fn place_at<R: Print>(rt: &R, row: usize, column: usize) -> io::Result<()> {
-    print!(rt; " row {row} column {column}")
-}
-
-// What a search finds.
-pub fn place<R: Print>(rt: &R, found: Result<Option<At>, DoesNotFit>) -> io::Result<()> {
-    match found {
-        Ok(Some(at)) => place_at(rt, at.row, at.column),
-        Ok(None) => print!(rt; " nowhere"),
-        Err(DoesNotFit) => print!(rt; " does not fit"),
+impl fmt::Display for Given<'_> {
+    fn fmt<W: fmt::Write>(&self, f: &mut fmt::Formatter<W>) -> fmt::Result {
+        let work = self.0;
+        write!(f, ":")?;
+        if work.values.len() < 8192 {
+            write!(f, " {} values,", work.values.len())?;
+        }
+        if work.labels.len() < 8192 {
+            write!(f, " {} labels,", work.labels.len())?;
+        }
+        if work.marks.len() < 1024 {
+            write!(f, " {} marks,", work.marks.len())?;
+        }
+        write!(f, "{work}")?;
+        match work.stack.depth {
+            0 => write!(f, " no tables gives"),
+            1..=3 => write!(f, " gives"),
+            _ => write!(f, "; one more gives"),
+        }
     }
 }
 
 // The live tables.
-fn live<R: Print>(rt: &R, values: &[i64], labels: &[u32], stack: Stack) -> io::Result<()> {
-    for slot in 0..3 {
-        if slot < stack.depth {
-            table(
-                rt,
-                values,
-                labels,
-                slot,
-                stack.rows[slot],
-                stack.columns[slot],
+impl fmt::Display for Work {
+    fn fmt<W: fmt::Write>(&self, f: &mut fmt::Formatter<W>) -> fmt::Result {
+        let stack = self.stack;
+        let sizes = stack.rows.iter().zip(stack.columns.iter());
+        for (slot, (rows, columns)) in sizes.take(stack.depth).enumerate() {
+            if 0 < slot {
+                write!(f, ";")?;
+            }
+            write!(f, " {columns}|")?;
+            write!(
+                f,
+                "{}",
+                Rows {
+                    work: self,
+                    at: slot << 11,
+                    rows: *rows,
+                    columns: *columns
+                }
             )?;
         }
+        Ok(())
     }
-    Ok(())
 }
 
-// A table with its columns; of more than eight rows, which have one column, the first and the last, and how many there are.
-fn table<R: Print>(
-    rt: &R,
-    values: &[i64],
-    labels: &[u32],
-    slot: usize,
-    rows: usize,
-    columns: usize,
-) -> io::Result<()> {
-    let at = slot << 11;
-    if 0 < slot {
-        print!(rt; ";")?;
-    }
-    print!(rt; " {columns}|")?;
-    if rows <= 8 {
-        return row_by_row(rt, values, labels, at, rows, columns);
-    }
-    cells(rt, values, labels, at, 1)?;
-    print!(rt; " ..")?;
-    cells(rt, values, labels, at.wrapping_add(rows).wrapping_sub(1), 1)?;
-    print!(rt; " of {rows} rows")
-}
-
-fn row_by_row<R: Print>(
-    rt: &R,
-    values: &[i64],
-    labels: &[u32],
+// The rows of a table at a place; of more than eight, which have one column, the first and the last, and how many there are.
+#[derive(Drop)]
+struct Rows<'a> {
+    work: &'a Work,
     at: usize,
     rows: usize,
     columns: usize,
-) -> io::Result<()> {
-    let mut from = at;
-    for row in 0..rows {
-        if 0 < row {
-            print!(rt; " /")?;
+}
+
+impl fmt::Display for Rows<'_> {
+    fn fmt<W: fmt::Write>(&self, f: &mut fmt::Formatter<W>) -> fmt::Result {
+        let (values, labels) = (self.work.values.as_slice(), self.work.labels.as_slice());
+        let (mut at, rows, count) = (self.at, self.rows, self.columns);
+        if 8 < rows {
+            let last = at.wrapping_add(rows).wrapping_sub(1);
+            write!(
+                f,
+                "{} ..",
+                Cells {
+                    values,
+                    labels,
+                    at,
+                    count: 1
+                }
+            )?;
+            write!(
+                f,
+                "{}",
+                Cells {
+                    values,
+                    labels,
+                    at: last,
+                    count: 1
+                }
+            )?;
+            return write!(f, " of {rows} rows");
         }
-        cells(rt, values, labels, from, columns)?;
-        from = from.wrapping_add(columns);
+        for row in 0..rows {
+            if 0 < row {
+                write!(f, " /")?;
+            }
+            write!(
+                f,
+                "{}",
+                Cells {
+                    values,
+                    labels,
+                    at,
+                    count
+                }
+            )?;
+            at = at.wrapping_add(count);
+        }
+        Ok(())
     }
-    Ok(())
 }
 
 // So many cells from a place on.
-pub fn cells<R: Print>(
-    rt: &R,
-    values: &[i64],
-    labels: &[u32],
-    at: usize,
-    count: usize,
-) -> io::Result<()> {
-    for i in 0..count {
-        cell(rt, values, labels, at.wrapping_add(i))?;
-    }
-    Ok(())
+#[derive(Drop)]
+pub struct Cells<'a> {
+    pub values: &'a [i64],
+    pub labels: &'a [u32],
+    pub at: usize,
+    pub count: usize,
 }
 
-fn cell<R: Print>(rt: &R, values: &[i64], labels: &[u32], at: usize) -> io::Result<()> {
-    if at < values.len() && at < labels.len() {
-        value(rt, values[at])?;
-        return label(rt, labels[at]);
+impl fmt::Display for Cells<'_> {
+    fn fmt<W: fmt::Write>(&self, f: &mut fmt::Formatter<W>) -> fmt::Result {
+        for index in 0..self.count {
+            let at = self.at.wrapping_add(index);
+            match (self.values.get(at), self.labels.get(at)) {
+                (Some(value), Some(label)) => write!(f, "{}:{label:x}", Value(*value))?,
+                _ => write!(f, " none")?,
+            }
+        }
+        Ok(())
     }
-    print!(rt; " none")
-}
-
-fn label<R: Print>(rt: &R, label: u32) -> io::Result<()> {
-    print!(rt; ":{label:x}")
 }
 
 // A value, and OVER as a word.
-fn value<R: Print>(rt: &R, value: i64) -> io::Result<()> {
-    if value == OVER {
-        print!(rt; " OVER")
-    } else {
-        print!(rt; " {value}")
+#[derive(Clone, Copy)]
+struct Value(i64);
+
+impl fmt::Display for Value {
+    fn fmt<W: fmt::Write>(&self, f: &mut fmt::Formatter<W>) -> fmt::Result {
+        let value = self.0;
+        if value == OVER {
+            write!(f, " OVER")
+        } else {
+            write!(f, " {value}")
+        }
+    }
+}
+
+// The refusal of a step.
+#[derive(Clone, Copy)]
+pub struct Refused(pub Refusal);
+
+impl fmt::Display for Refused {
+    fn fmt<W: fmt::Write>(&self, f: &mut fmt::Formatter<W>) -> fmt::Result {
+        let (number, row, column) = (self.0.number(), self.0.row(), self.0.column());
+        write!(f, " {number} at row {row} column {column}")
+    }
+}
+
+// What a search finds.
+#[derive(Clone, Copy)]
+pub struct Searched(pub Result<Option<At>, DoesNotFit>);
+
+impl fmt::Display for Searched {
+    fn fmt<W: fmt::Write>(&self, f: &mut fmt::Formatter<W>) -> fmt::Result {
+        match self.0 {
+            Ok(Some(at)) => write!(f, " row {} column {}", at.row, at.column),
+            Ok(None) => write!(f, " nowhere"),
+            Err(DoesNotFit) => write!(f, " does not fit"),
+        }
     }
 }

@@ -1,10 +1,10 @@
 // The words of a text, and the numbers that they are.
-ghost use Rattle.std.specs.Prelude.{◌≡◌, ◌+◌, ◌≤◌, length, drop, min};
-ghost use Rattle.step_trials.specs.Words.{count_of, index_of, part_of, digit_of, with_digit, number_of, bits_of, place_of};
+ghost use Rattle.std.specs.Prelude.{◌≡◌, ◌+◌, ◌<◌, ◌≤◌, ◌^◌, length, drop, Some, IfSome};
+ghost use Rattle.step_trials.specs.Words.{count_of, index_of, part_of, digit_of, with_digit, number_of, short_of, bits_of, first_of};
 ghost use Rattle.step_trials.specs.Words as spec;
 
-// Stands for a word that is no number: numbers are below it.
-pub const NONE: u64 = 0x1_0000_0000_0000;
+// Numbers are below it.
+const BOUND: u64 = 0x1_0000_0000_0000;
 
 // How often a byte stands in a text.
 #[tactic(auto, using(crate::proofs::Words::count_next, crate::proofs::Words::count_skip, crate::proofs::Words::nothing_left), unfolding(crate::specs::Words::count_of))]
@@ -12,12 +12,10 @@ pub fn count(text: &[u8], byte: u8) -> usize
     ensures { result ≡ count_of byte text.now }
 {
     let mut n = 0;
-    let mut i = 0;
-    while i < text.len() {
-        if text[i] == byte {
+    for &other in text {
+        if other == byte {
             n += 1;
         }
-        i += 1;
     }
     n
 }
@@ -30,14 +28,12 @@ pub fn find(text: &[u8], from: usize, byte: u8) -> usize
     ensures lower_bound { from ≤ result }
     ensures upper_bound { result ≤ length text.now }
 {
-    let mut place = from;
-    while place < text.len() {
+    for place in from..text.len() {
         if text[place] == byte {
-            break;
+            return place;
         }
-        place += 1;
     }
-    place
+    text.len()
 }
 
 // Whether two texts are the same.
@@ -77,55 +73,54 @@ fn digit(byte: u8) -> u8
 
 // A number with one digit more.
 #[tactic(auto, unfolding(crate::specs::Words::with_digit))]
-fn with_digit(base: u8, number: u64, byte: u8) -> u64
-    ensures { result ≡ with_digit base number byte }
+fn with_digit(base: u8, number: u64, byte: u8) -> Option<u64>
+    requires { number < 2 ^ 48 }
+    ensures value { result ≡ with_digit base (Some number) byte }
+    ensures fits { IfSome result (λ more. more < 2 ^ 48) }
 {
     let d = digit(byte);
     if base <= d {
-        return NONE;
-    }
-    if NONE <= number {
-        return NONE;
+        return None;
     }
     let more = number * base as u64 + d as u64;
-    if more < NONE { more } else { NONE }
+    (more < BOUND).then_some(more)
 }
 
 // The number that a word is.
-#[tactic(auto, using(crate::proofs::Words::digits_next, crate::proofs::Words::nothing_left), unfolding(crate::specs::Words::number_of, crate::specs::Words::with_digits))]
-pub fn number(base: u8, word: &[u8]) -> u64
+#[tactic(auto, using(crate::proofs::Words::digits_next, crate::proofs::Words::digits_none, crate::proofs::Words::nothing_left), unfolding(crate::specs::Words::number_of, crate::specs::Words::with_digits))]
+pub fn number(base: u8, word: &[u8]) -> Option<u64>
     ensures { result ≡ number_of base word.now }
 {
-    if word.len() == 0 {
-        return NONE;
+    if word.is_empty() {
+        return None;
     }
     let mut number = 0;
-    let mut i = 0;
-    while i < word.len() {
-        number = with_digit(base, number, word[i]);
-        i += 1;
+    for &byte in word {
+        number = with_digit(base, number, byte)?;
     }
-    number
+    Some(number)
 }
 
-// A number, or the largest of 32 bits.
-pub fn small(number: u64) -> u32
-    ensures { result ≡ min number 4294967295 }
+// The number of 32 bits that a word is.
+#[tactic(auto, unfolding(crate::specs::Words::short_of))]
+pub fn short(base: u8, word: &[u8]) -> Option<u32>
+    ensures { result ≡ short_of base word.now }
 {
-    if number < 0xffff_ffff {
-        number as u32
+    let number = number(base, word)?;
+    if number < 0x1_0000_0000 {
+        Some(number as u32)
     } else {
-        0xffff_ffff
+        None
     }
 }
 
 // The 64 bits of the value that a word is.
 #[tactic(auto, unfolding(crate::specs::Words::bits_of))]
-pub fn bits(word: &[u8]) -> u64
+pub fn bits(word: &[u8]) -> Option<u64>
     ensures { result ≡ bits_of word.now }
 {
     if same(word, b"OVER") {
-        return 0x8000_0000_0000;
+        return Some(0x8000_0000_0000);
     }
     if same(part(word, b'-', 0), b"") & (count(word, b'-') == 1) {
         return negated(number(10, part(word, b'-', 1)));
@@ -135,16 +130,14 @@ pub fn bits(word: &[u8]) -> u64
 
 // The bits of a number below zero.
 #[tactic(auto, unfolding(crate::specs::Words::negated))]
-fn negated(number: u64) -> u64
+fn negated(number: Option<u64>) -> Option<u64>
     ensures { result ≡ spec.negated number }
 {
+    let number = number?;
     if number == 0 {
-        return NONE;
+        return None;
     }
-    if NONE <= number {
-        return NONE;
-    }
-    0xffff_ffff_ffff_ffff - (number - 1)
+    Some(0xffff_ffff_ffff_ffff - (number - 1))
 }
 
 // Whether a word is as a shape's word says.
@@ -153,7 +146,7 @@ fn word_fits(word: &[u8], shape: &[u8]) -> bool
     ensures { result ≡ spec.word_fits word.now shape.now }
 {
     if same(shape, b"#") {
-        return number(10, word) < 0x1_0000_0000;
+        return short(10, word).is_some();
     }
     if same(shape, b"*") {
         return true;
@@ -179,18 +172,15 @@ fn shaped(text: &[u8], shape: &[u8]) -> bool
     word_fits(part(text, b' ', 0), part(shape, b' ', 0))
 }
 
-// The first shape that a text has, of those that each have the byte behind it.
-#[tactic(auto, using(crate::proofs::Words::place_next), unfolding(crate::specs::Words::place_of, crate::specs::Words::place_from))]
-pub fn place(byte: u8, text: &[u8], shapes: &[u8]) -> usize
-    ensures { result ≡ place_of byte text.now shapes.now }
+// What a table has beside the first shape that a text has.
+#[tactic(auto, using(crate::proofs::Words::first_next, crate::proofs::Words::nothing_left), unfolding(crate::specs::Words::first_of))]
+pub fn first<T: Copy>(text: &[u8], table: &[(&str, T)]) -> Option<T>
+    ensures { result ≡ first_of text.now table.now }
 {
-    let all = count(shapes, byte);
-    let mut index = 0;
-    while index < all {
-        if shaped(text, part(shapes, byte, index)) {
-            break;
+    for &(shape, value) in table {
+        if shaped(text, shape.as_bytes()) {
+            return Some(value);
         }
-        index += 1;
     }
-    index
+    None
 }

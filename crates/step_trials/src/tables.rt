@@ -1,136 +1,163 @@
 // The tables of a case, put into work memory of its own.
-ghost use Rattle.std.specs.Prelude.{◌≡◌, if◌then◌else◌};
-ghost use Rattle.step_trials.specs.Words.{form_of};
+ghost use Rattle.std.specs.Prelude.{◌≡◌};
+ghost use Rattle.step_trials.specs.Meanings.{word_of};
 
-use crate::answers::{Lent, print};
-use crate::cases::Case;
-use crate::printing::unreadable;
-use crate::reading::{NONE, bits, count, find, number, part, place, small};
-use memory::with_table;
-use std::io;
+use crate::reading::{bits, count, number, part, short};
+use memory::{LiveTable, Stack, live_table, no_tables, with_table};
+use std::alloc::{AllocError, Global};
 use value::pattern::signed;
 
-// Runs a case with so many bytes of a container, of two digits each.
-pub fn decode<R: Print>(
-    rt: &R,
-    line: &[u8],
-    digits: &[u8],
-    bytes: usize,
-    case: Case,
-) -> io::Result<()> {
-    let mut container = [0; 128];
-    if 128 < bytes {
-        return unreadable(rt, line);
-    }
-    for i in 0..bytes {
-        let from = 2 * i;
-        let end = from + 2;
-        if digits.len() < end {
-            return unreadable(rt, line);
-        }
-        let byte = number(16, &digits[from..end]);
-        if 255 < byte {
-            return unreadable(rt, line);
-        }
-        container[i] = byte as u8;
-    }
-    run(rt, line, &container, bytes, case)
+// What stands between tables: a table of so many columns, a cell with the bits of its value and its label, a number, a word by its name, or what
+// can't be read.
+#[derive(Clone, Copy)]
+pub enum Word {
+    Columns(u64),
+    Cell(u64, u32),
+    Count(u32),
+    Values,
+    Labels,
+    Marks,
+    More,
+    Other,
+    Unreadable,
 }
 
-// What a word between tables is: 0 the columns of a table, 1 a cell, 14 neither of them though it looks so, or what it is by its name.
-#[tactic(auto, unfolding(crate::specs::Words::form_of))]
-fn form(word: &[u8], named: usize) -> usize
-    ensures { result ≡ form_of word.now named }
+// What a word is by its bar or its colon, or else by its name.
+#[tactic(auto, unfolding(crate::specs::Meanings::word_of))]
+fn meaning(text: &[u8], named: Word) -> Word
+    ensures { result ≡ word_of text.now named }
 {
-    if count(word, b'|') == 1 {
-        return if number(10, part(word, b'|', 0)) < NONE {
-            0
-        } else {
-            14
+    if count(text, b'|') == 1 {
+        return match number(10, part(text, b'|', 0)) {
+            Some(columns) => Word::Columns(columns),
+            None => Word::Unreadable,
         };
     }
-    if count(word, b':') == 1 {
-        if bits(part(word, b':', 0)) == NONE {
-            return 14;
-        }
-        return if number(16, part(word, b':', 1)) < 0x1_0000_0000 {
-            1
-        } else {
-            14
+    if count(text, b':') == 1 {
+        return match (bits(part(text, b':', 0)), short(16, part(text, b':', 1))) {
+            (Some(bits), Some(label)) => Word::Cell(bits, label),
+            _ => Word::Unreadable,
         };
     }
     named
 }
 
-fn either(first: bool, a: usize, b: usize) -> usize
-    ensures { result ≡ (if first then a else b) }
-{
-    if first { a } else { b }
+fn name(text: &[u8]) -> Word {
+    match text {
+        b"values," => Word::Values,
+        b"labels," => Word::Labels,
+        b"marks," => Word::Marks,
+        b"more" => Word::More,
+        b"/" | b".." | b"of" | b"rows" | b"no" | b"tables" | b"one" => Word::Other,
+        _ => short(10, text).map_or(Word::Unreadable, Word::Count),
+    }
 }
 
-// Puts the tables into work memory, the first into slot 0, and answers the case. A cell stands in all places behind it too.
-pub fn run<R: Print>(
-    rt: &R,
-    line: &[u8],
-    container: &[u8],
-    bytes: usize,
-    case: Case,
-) -> io::Result<()> {
-    let mut values = [0; 8200];
-    let mut labels = [0; 8200];
-    let mut stack = memory::no_tables();
-    let mut cells = 0;
-    let mut v = 8200;
-    let mut l = 8200;
-    let mut m = 1032;
-    let mut from = part(line, b':', 0).len().wrapping_add(2);
-    while from < line.len() {
-        let end = find(line, from, b' ');
-        let word = part(&line[from..end], b';', 0);
-        from = end + 1;
-        let top = memory::live_table(stack, 0);
-        let columns = top.columns;
-        let read = number(10, part(word, b'|', 0)) as usize;
-        let names = b"| : # values, labels, marks, more / .. of rows no tables one ";
-        let kind = form(word, place(b' ', word, names));
-        v = either(kind == 3, cells, v);
-        l = either(kind == 4, cells, l);
-        m = either(kind == 5, cells, m);
-        stack.depth = either(kind == 6, 4, stack.depth);
-        match kind {
-            0 => {
-                stack = with_table(stack, stack.depth, read, 0);
-                cells = 0;
-            }
-            1 => {
-                let value = signed(bits(part(word, b':', 0)));
-                let label = small(number(16, part(word, b':', 1)));
-                for i in top.at.wrapping_add(cells)..8200 {
-                    values[i] = value;
-                    labels[i] = label;
-                }
-                cells = cells.wrapping_add(1);
-                if 0 < columns {
-                    stack = with_table(stack, top.slot, columns, cells / columns);
-                }
-            }
-            2 => {
-                cells = read;
-                if 0 < columns {
-                    stack = with_table(stack, top.slot, columns, read);
-                }
-            }
-            3..=13 => {}
-            _ => {
-                return unreadable(rt, line);
-            }
+// How many values, labels and marks of work memory are lent.
+#[derive(Clone, Copy)]
+struct Lent {
+    values: usize,
+    labels: usize,
+    marks: usize,
+}
+
+// Work memory, and the stack of the tables in it.
+#[derive(Drop)]
+pub struct Work {
+    pub values: Vec<i64>,
+    pub labels: Vec<u32>,
+    pub marks: Vec<u64>,
+    pub stack: Stack,
+}
+
+impl Work {
+    // More than a step uses, each mark another one.
+    fn new(alloc: Global) -> Result<Work, AllocError> {
+        Ok(Work {
+            values: vec![in alloc; 0; 8200]?,
+            labels: vec![in alloc; 0; 8200]?,
+            marks: (0..1032).collect(alloc)?,
+            stack: no_tables(),
+        })
+    }
+
+    // Puts a cell at a place, and in all places behind it too.
+    fn put(&mut self, at: usize, value: i64, label: u32) {
+        if let Some(values) = self.values.as_mut_slice().get_mut(at..) {
+            values.fill(value);
+        }
+        if let Some(labels) = self.labels.as_mut_slice().get_mut(at..) {
+            labels.fill(label);
         }
     }
-    let lent = Lent {
-        values: v,
-        labels: l,
-        marks: m,
-        bytes,
+
+    // The table on top has so many rows, where it has columns.
+    fn rows(&mut self, top: LiveTable, rows: usize) {
+        if 0 < top.columns {
+            self.stack = with_table(self.stack, top.slot, top.columns, rows);
+        }
+    }
+
+    // Reads a word behind so many cells of the table on top, and answers how many these are then; or nothing, where it can't be read.
+    fn read(&mut self, word: Word, cells: usize) -> Option<usize> {
+        let top = live_table(self.stack, 0);
+        match word {
+            Word::Columns(columns) => {
+                self.stack = with_table(self.stack, self.stack.depth, columns as usize, 0);
+                Some(0)
+            }
+            Word::Cell(bits, label) => {
+                self.put(top.at.wrapping_add(cells), signed(bits), label);
+                let cells = cells.wrapping_add(1);
+                if 0 < top.columns {
+                    self.rows(top, cells / top.columns);
+                }
+                Some(cells)
+            }
+            Word::Count(rows) => {
+                self.rows(top, rows as usize);
+                Some(rows as usize)
+            }
+            Word::More => {
+                self.stack.depth = 4;
+                Some(cells)
+            }
+            Word::Values | Word::Labels | Word::Marks | Word::Other => Some(cells),
+            Word::Unreadable => None,
+        }
+    }
+
+    // Lends no more than that.
+    fn lend(&mut self, lent: Lent) {
+        self.values.truncate(lent.values);
+        self.labels.truncate(lent.labels);
+        self.marks.truncate(lent.marks);
+    }
+}
+
+// Work memory with the tables of a text, the first in slot 0; or nothing, where a word can't be read.
+pub fn load(alloc: Global, text: &[u8]) -> Result<Option<Work>, AllocError> {
+    let mut work = Work::new(alloc)?;
+    let mut cells = 0;
+    let mut lent = Lent {
+        values: 8200,
+        labels: 8200,
+        marks: 1032,
     };
-    print(rt, &mut values, &mut labels, container, lent, stack, case)
+    for piece in text.split_inclusive(|byte| *byte == b' ') {
+        let text = part(part(piece, b' ', 0), b';', 0);
+        let word = meaning(text, name(text));
+        match word {
+            Word::Values => lent.values = cells,
+            Word::Labels => lent.labels = cells,
+            Word::Marks => lent.marks = cells,
+            _ => {}
+        }
+        match work.read(word, cells) {
+            Some(more) => cells = more,
+            None => return Ok(None),
+        }
+    }
+    work.lend(lent);
+    Ok(Some(work))
 }
