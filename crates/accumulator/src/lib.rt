@@ -10,7 +10,8 @@ use rounding::average;
 use value::choice::chosen;
 use value::range::{OVER, in_range, settled};
 
-// The values of a group so far: how many there are, at most 256, whether all are in range, their running sum, the smallest and the largest.
+// The values of a group so far: how many there are, at most 256, whether all are in range, their running sum, the smallest and the largest. `exact` stands
+// beside `total`, and no Option has both: which of the two counts is chosen without a branch, since the values may be locked.
 #[derive(Clone, Copy, Debug, PartialEq, Eq)]
 pub struct Accumulator {
     pub rows: u32,

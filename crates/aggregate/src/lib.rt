@@ -8,7 +8,7 @@ ghost use Rattle.aggregate.specs.Aggregate.{smaller, larger, has_room, accumulat
 use value::choice::chosen;
 use value::range::{OVER, both_in_range, in_range};
 
-// The first or the second of two values.
+// The first or the second of two values, by arithmetic and no `if`: they may be locked.
 fn of_two(first: bool, a: i64, b: i64) -> i64
     ensures { result ≡ of_both a b (cond first a b) }
 {

@@ -3,7 +3,6 @@ ghost use Rattle.std.specs.Prelude.{◌≡◌};
 ghost use Rattle.apply.specs.promises.Making as spec;
 
 use extension::NewCell;
-use operations::{digits_of, transform_code};
 use plan::Transform;
 
 // What a transform makes of a row.
@@ -23,9 +22,7 @@ impl NewCell for Applied {
 
     // By the label library. A label on which the transform is forbidden stays as it is.
     fn label(&self, word: u32) -> u32 {
-        let code = transform_code(self.transform);
-        let digits = digits_of(self.transform);
-        label::discharge_transform(word, code, digits).unwrap_or(word)
+        apply_refusal::discharged(word, self.transform).unwrap_or(word)
     }
 }
 

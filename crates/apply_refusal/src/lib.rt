@@ -3,25 +3,24 @@
 #![tactic(auto)]
 
 ghost use Rattle.std.specs.Prelude.{◌≡◌, true, ◌<◌, length, get_or};
-ghost use Rattle.cells.specs.promises.Labelled.{column_formed_at};
 ghost use Rattle.cells.specs.promises.Search.{says};
 ghost use Rattle.operations.specs.promises.Operations.{operation_fits};
-ghost use Rattle.label_discharge.specs.Discharge.{forbids_t};
+ghost use Rattle.label_discharge.specs.Discharge.{forbids_t, transform_answer};
+ghost use Rattle.label_words.specs.Answers.{label_says};
 ghost use Rattle.label_words.specs.WellFormed.{well_formed};
-ghost use Rattle.memory.specs.promises.Stack.{labels_in};
 ghost use Rattle.memory.specs.promises.Steps.{step_says};
-ghost use Rattle.plan.specs.Apply.{operand_clear, second_clear, apply_row, check_apply};
-ghost use Rattle.plan.specs.Verdict.{refuse_if};
+ghost use Rattle.plan.specs.Apply.{operand_clear, second_clear, apply_row};
+ghost use Rattle.plan.specs.Numbers.{transform_code, digits_taken};
 ghost use Rattle.apply_refusal.specs.promises.Refusals.{apply_says};
 
 use cells::At;
 use label::LabelRefusal;
 use memory::{LiveTable, Refusal, StepError};
-use operations::{digits_of, transform_code};
 use plan::{Operand, Transform};
 
 // The first refusal, row by row. An operation that does not exist, a table that is not within the labels or does not have the column, and
 // labels in the column that are not well-formed, do not fit. A second operand of a column that the table does not have is clear.
+// NOISE has a loop of its own: with the test of a row as a parameter it would be no shorter.
 pub fn refusal(
     labels: &[u32],
     table: LiveTable,
@@ -30,24 +29,11 @@ pub fn refusal(
 ) -> Result<(), StepError>
     ensures { step_says result ≡ apply_says labels.now table column transform }
 {
-    let formed = search::column_formed(labels, table.at, table.rows, table.columns, column);
-    if !(operations::operation_fits(transform) & formed) {
+    if !operations::operation_fits(transform)
+        || !search::column_formed(labels, table.area(), column)
+    {
         return Err(StepError::DoesNotFit);
     }
-    rows_refusal(labels, table, column, transform)
-}
-
-// The same of labels that are well-formed and an operation that exists. NOISE has a loop of its own: with the row as a parameter it would be no shorter.
-fn rows_refusal(
-    labels: &[u32],
-    table: LiveTable,
-    column: usize,
-    transform: Transform,
-) -> Result<(), StepError>
-    requires column_value { column_formed_at labels.now table.at table.rows table.columns column ≡ true }
-    requires transform_value { operation_fits transform ≡ true }
-    ensures { step_says result ≡ says (check_apply column transform (labels_in labels.now table)) }
-{
     for row in 0..table.rows {
         let from = table.at + row * table.columns;
         row_refusal(&labels[from..from + table.columns], row, column, transform)?;
@@ -66,24 +52,10 @@ fn row_refusal(
     requires fits { (well_formed (get_or labels.now column 0) ≡ true) × (operation_fits transform ≡ true) }
     ensures { step_says result ≡ says (apply_row column transform row labels.now) }
 {
-    first_refusal(labels[column], row, column, transform)?;
-    second_refusal(labels, row, transform)
-}
-
-// 32 in one row.
-fn first_refusal(
-    word: u32,
-    row: usize,
-    column: usize,
-    transform: Transform,
-) -> Result<(), StepError>
-    requires { (well_formed word ≡ true) × (operation_fits transform ≡ true) }
-    ensures { step_says result ≡ says (refuse_if (forbids_t word) 32 row column) }
-{
-    if forbidden(word, transform) {
+    if forbidden(labels[column], transform) {
         return Err(StepError::Refused(Refusal::Forbidden(At { row, column })));
     }
-    Ok(())
+    second_refusal(labels, row, transform)
 }
 
 // Whether the transform is forbidden on a label.
@@ -91,8 +63,18 @@ fn forbidden(word: u32, transform: Transform) -> bool
     requires { (well_formed word ≡ true) × (operation_fits transform ≡ true) }
     ensures { result ≡ forbids_t word }
 {
-    let left = label::discharge_transform(word, transform_code(transform), digits_of(transform));
-    left == Err(LabelRefusal::Forbidden)
+    discharged(word, transform) == Err(LabelRefusal::Forbidden)
+}
+
+// The label that a transform leaves of one, as the label library answers.
+pub fn discharged(word: u32, transform: Transform) -> Result<u32, LabelRefusal>
+    ensures { label_says result ≡ transform_answer word (transform_code transform) (digits_taken transform) }
+{
+    label::discharge_transform(
+        word,
+        operations::transform_code(transform),
+        operations::digits_of(transform),
+    )
 }
 
 // 33 in one row.

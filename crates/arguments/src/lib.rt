@@ -1,9 +1,10 @@
 // What a program reads: its input, and the files that its arguments name.
 #![tactic(auto)]
 
-ghost use Rattle.arguments.specs.Runs.{RanOn, RanOnce};
-ghost use Rattle.std.specs.List.{FoldsTo};
-ghost use Rattle.std.specs.Prelude.{◌≡◌, ℕ, List, OnOk, ◌≤◌, length, take, vec_len, IfOk, IfSome, OnErr};
+ghost use Rattle.arguments.specs.Runs.{RanIf, RanOn, RanOnce};
+ghost use Rattle.std.specs.List.{FoldsTo, slice_get};
+ghost use Rattle.std.specs.Option.{option_map_or};
+ghost use Rattle.std.specs.Prelude.{◌≡◌, ℕ, List, [], Option, OnOk, ◌≤◌, length, take, vec_len, string_bytes, IfOk, IfSome};
 
 use std::alloc::Global;
 use std::env::Env;
@@ -16,7 +17,7 @@ pub const MOST: usize = 65537;
 
 // Runs a trial on the bytes of each file that the arguments name, and prints the file's name first. A file that can't be opened is told on standard
 // error, and passed over.
-pub fn for_each_file<R, F>(rt: &R, mut trial: F) -> io::Result<()>
+pub fn for_each_file<R, F>(rt: &R, trial: F) -> io::Result<()>
 where
     R: Files + Print + Eprint + Env + AllocGlobal,
     F: FnMut(&[u8]) -> io::Result<()>,
@@ -24,7 +25,19 @@ where
     ensures { OnOk result ((runs : List (List ℕ)) × (last : F) × FoldsTo (RanOn F.FnMut) trial runs last) }
 {
     let names: Vec<String> = env::args(rt)?.skip(1).collect(rt.alloc())?;
-    for name in &names {
+    for_each(rt, &names, trial)
+}
+
+// The same for the files of some names. Each name has an outcome, in their order: the bytes that the trial ran on, or none.
+fn for_each<R, F>(rt: &R, names: &[String], mut trial: F) -> io::Result<()>
+where
+    R: Files + Print + Eprint + AllocGlobal,
+    F: FnMut(&[u8]) -> io::Result<()>,
+    requires { F.IsAlwaysCallable trial }
+    ensures { OnOk result ((tried : List (Option (List ℕ))) × (length tried ≡ length names.now)
+        × (last : F) × FoldsTo (RanIf F.FnMut) trial tried last) }
+{
+    for name in names {
         run_file(rt, name, &mut trial)?;
     }
     Ok(())
@@ -45,39 +58,19 @@ where
     Ok(())
 }
 
-// The bytes of the file of a name, at most so many, or none where it can't be opened. Prints the name first where `named`.
+// The name at an index, or an empty one, which is that of no file.
+pub fn name_at(names: &[String], index: usize) -> &str
+    ensures { result.now ≡ option_map_or string_bytes (slice_get names.now index) [] }
+{
+    names.get(index).map_or("", |name| name.as_str())
+}
+
+// The bytes of the file of a name, at most so many, or none where it can't be opened. Which bytes a file has, no contract can say. Where `named`,
+// prints the name: here, since it stands before what reading the file makes of it.
 pub fn file_bytes<R>(rt: &R, name: &str, named: bool, limit: usize) -> io::Result<Option<Vec<u8>>>
 where
     R: Files + Print + Eprint + AllocGlobal,
     ensures { IfOk result (λ found. IfSome found (λ bytes. vec_len bytes ≤ limit)) }
-{
-    let mut bytes = vec![in rt.alloc(); 0u8; limit]?;
-    let Some(length) = read_argument(rt, name, named, &mut bytes)? else {
-        return Ok(None);
-    };
-    bytes.truncate(length);
-    Ok(Some(bytes))
-}
-
-// The first bytes that a reader gives, at most so many.
-pub fn reader_bytes<R: Read>(alloc: Global, reader: &mut R, limit: usize) -> io::Result<Vec<u8>>
-    ensures { IfOk result (λ bytes. IfSome (R.remaining reader.old) (λ all. bytes.items ≡ take limit all)) }
-{
-    let mut bytes = Vec::new(alloc);
-    reader.take(limit as u64).read_to_end(&mut bytes)?;
-    Ok(bytes)
-}
-
-// Reads the file of a name into the bytes, and answers how many there are, or none where it can't be opened. Prints the name first where `named`. Which
-// bytes a file has, no contract can say.
-pub fn read_argument<R: Files + Print + Eprint>(
-    rt: &R,
-    name: &str,
-    named: bool,
-    bytes: &mut [u8],
-) -> io::Result<Option<usize>>
-    ensures ok { IfOk result (λ found. IfSome found (λ read. read ≤ length bytes.new)) }
-    ensures err { OnErr result (length bytes.new ≡ length bytes.old) }
 {
     let mut file = match fs::open(rt, name) {
         Ok(file) => file,
@@ -89,22 +82,18 @@ pub fn read_argument<R: Files + Print + Eprint>(
     if named {
         print!(rt; "{name}")?;
     }
-    let read = read_full(&mut file, bytes)?;
-    Ok(Some(read))
+    let bytes = reader_bytes(rt.alloc(), &mut file, limit)?;
+    Ok(Some(bytes))
 }
 
-// Reads until the bytes are full or the input ends, and answers how many it read.
-pub fn read_full<R: Read>(reader: &mut R, bytes: &mut [u8]) -> io::Result<usize>
-    ensures ok { IfOk result (λ read. read ≤ length bytes.new) }
-    ensures err { OnErr result (length bytes.new ≡ length bytes.old) }
+// The first bytes that a reader gives, at most so many.
+pub fn reader_bytes<R: Read>(alloc: Global, reader: &mut R, limit: usize) -> io::Result<Vec<u8>>
+    ensures known { IfOk result (λ bytes. IfSome (R.remaining reader.old) (λ all. bytes.items ≡ take limit all)) }
+    ensures within { IfOk result (λ bytes. vec_len bytes ≤ limit) }
 {
-    let mut read = 0;
-    while read < bytes.len() {
-        let more = reader.read(&mut bytes[read..])?;
-        if more == 0 {
-            break;
-        }
-        read += more;
-    }
-    Ok(read)
+    let mut bytes = Vec::new(alloc);
+    reader.take(limit as u64).read_to_end(&mut bytes)?;
+    // Of a reader whose bytes are not known before, the library does not say that it stops at the limit.
+    bytes.truncate(limit);
+    Ok(bytes)
 }

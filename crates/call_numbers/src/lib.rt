@@ -24,8 +24,8 @@ pub fn run_numbers(answer: Result<Released, RunRefusal>) -> [u64; 4]
             [number, place, 0, 0]
         }
         Err(RunRefusal::Step(step, refusal)) => {
-            let (number, row, column) = (refusal.number(), refusal.row(), refusal.column());
-            [number as u64, step as u64, row as u64, column as u64]
+            let (number, at) = (refusal.number(), refusal.at());
+            [number as u64, step as u64, at.row as u64, at.column as u64]
         }
         Err(RunRefusal::StageLeft(step, at)) => [35, step as u64, at.row as u64, at.column as u64],
         Err(RunRefusal::Over(step, at)) => [36, step as u64, at.row as u64, at.column as u64],

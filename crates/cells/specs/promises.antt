@@ -4,3 +4,4 @@ pub mod Work
 pub mod Written
 pub mod Search
 pub mod Labelled
+pub mod Lent

@@ -1,9 +1,11 @@
 // Cells of work memory. They stand in two slices, values and labels, row by row.
 #![tactic(auto)]
 
+mod lent;
 mod ranges;
 
-pub use ranges::{table_within, within};
+pub use lent::LentCells;
+pub use ranges::{Area, within};
 
 // The cell that a search finds, by its row and column.
 #[derive(Clone, Copy, PartialEq, Eq, Debug)]

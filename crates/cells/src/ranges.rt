@@ -13,15 +13,26 @@ pub fn within(from: usize, count: usize, length: usize) -> bool
     count <= length - from
 }
 
-// Whether a table has at most 256 rows and 8 columns, and lies within a slice.
-pub fn table_within(at: usize, rows: usize, columns: usize, length: usize) -> bool
-    ensures { result ≡ table_within at rows columns length }
-{
-    if 256 < rows {
-        return false;
+// A table in a slice: the place where it begins, and its rows and columns.
+#[derive(Clone, Copy, PartialEq, Eq, Debug)]
+pub struct Area {
+    pub at: usize,
+    pub rows: usize,
+    pub columns: usize,
+}
+
+impl Area {
+    // Whether it has at most 256 rows and 8 columns, and lies within a slice of that length.
+    pub fn within(self, length: usize) -> bool
+        ensures { result ≡ table_within self.at self.rows self.columns length }
+    {
+        let Area { at, rows, columns } = self;
+        if 256 < rows {
+            return false;
+        }
+        if 8 < columns {
+            return false;
+        }
+        within(at, rows * columns, length)
     }
-    if 8 < columns {
-        return false;
-    }
-    within(at, rows * columns, length)
 }

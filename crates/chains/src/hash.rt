@@ -1,20 +1,20 @@
 // A hash value of a row's keys. Rows with the same keys have the same one, whichever numbers stand for OVER; rows that differ in one key alone have
 // different ones.
-ghost use Rattle.std.specs.Prelude.{◌≡◌, ◌+◌, ◌≤◌, length};
+ghost use Rattle.std.specs.Prelude.{◌≡◌, ◌≤◌, length};
 ghost use Rattle.chains.specs.promises.Hash as spec;
 
 use value::pattern::{magnitude, negative};
 use value::range::settled;
 
-// That of the row that begins at a place.
-pub fn key_hash(values: &[i64], place: usize, columns: usize, keys: u32) -> u64
-    requires { (columns ≤ 8) × (place + columns ≤ length values.now) }
-    ensures { result ≡ spec.hash_at keys values.now place columns }
+// That of a row.
+pub fn key_hash(row: &[i64], keys: u32) -> u64
+    requires { length row.now ≤ 8 }
+    ensures { result ≡ spec.hash_of keys row.now }
 {
     let mut hash = 0;
-    for column in 0..columns {
+    for column in 0..row.len() {
         if (keys >> column) % 2 == 1 {
-            hash = with_key(hash, values[place + column]);
+            hash = with_key(hash, row[column]);
         }
     }
     hash

@@ -1,10 +1,10 @@
 // The first row with the keys of a row, and the next one. A group is led by its first row.
-ghost use Rattle.std.specs.Prelude.{◌≡◌, List, ℕ, ◌+◌, ◌*◌, ◌≤◌, ◌<◌, length, get_or};
-ghost use Rattle.cells.specs.promises.Cells.{cells_of, table_rows};
+ghost use Rattle.std.specs.Prelude.{◌≡◌, ℕ, ◌≤◌, ◌<◌, length, get_or};
 ghost use Rattle.chains.specs.promises.Chains as spec;
-ghost use Rattle.chains.specs.promises.Hash.{hash_at, Hashed};
+ghost use Rattle.chains.specs.promises.Leads as list;
 
 use super::hash::key_hash;
+use cells::Area;
 use comparison::same;
 
 // A row that leads a group, and the hash value of its keys.
@@ -14,24 +14,72 @@ struct Lead {
     hash: u64,
 }
 
-// For each row the first row with its keys.
-pub fn leaders(values: &[i64], at: usize, rows: usize, columns: usize, keys: u32) -> [usize; 256]
-    requires { spec.TableInside at rows columns (length values.now) }
-    ensures { spec.Led values.now at rows columns keys result }
-{
-    let mut found = [0usize; 256];
-    let mut leads = [Lead { row: 0, hash: 0 }; 256];
-    let mut count = 0;
-    for row in 0..rows {
-        let hash = key_hash(values, at + row * columns, columns, keys);
-        let first = first_same(values, &leads[..count], at, columns, keys, row, hash);
-        found[row] = first;
-        if first == row {
-            leads[count] = Lead { row, hash };
-            count += 1;
+// A table in the values, and the mask of the columns that are keys.
+#[derive(Clone, Copy)]
+pub struct Keyed<'a> {
+    pub values: &'a [i64],
+    pub table: Area,
+    pub keys: u32,
+}
+
+impl<'a> Keyed<'a> {
+    // For each row the first row with its keys. The leads are an array with a count of those found: memory is fixed, and there is no heap.
+    pub fn leaders(self) -> [usize; 256]
+        requires { list.Inside self }
+        ensures { spec.Led self.entry.values.now self.entry.table.at self.entry.table.rows self.entry.table.columns self.entry.keys result }
+    {
+        let mut found = [0usize; 256];
+        let mut leads = [Lead { row: 0, hash: 0 }; 256];
+        let mut count = 0;
+        for row in 0..self.table.rows {
+            let own = self.lead(row);
+            let first = self.first_same(&leads[..count], own);
+            found[row] = first;
+            if first == row {
+                leads[count] = own;
+                count += 1;
+            }
+        }
+        found
+    }
+
+    // The values of a row.
+    fn row(self, number: usize) -> &'a [i64]
+        requires { list.Inside self × (number < self.table.rows) }
+        ensures { result.now ≡ list.row_values self.entry number }
+    {
+        let Area { at, columns, .. } = self.table;
+        let place = at + number * columns;
+        &self.values[place..place + columns]
+    }
+
+    // A row with the hash value of its keys.
+    fn lead(self, row: usize) -> Lead
+        requires { list.Inside self × (row < self.table.rows) }
+        ensures { result ≡ list.lead_of self.entry row }
+    {
+        Lead {
+            row,
+            hash: key_hash(self.row(row), self.keys),
         }
     }
-    found
+
+    // The first row with the keys of a row: one of the rows that lead groups, or the row itself. Where hash values differ, the keys are not
+    // looked at.
+    fn first_same(self, leads: &[Lead], own: Lead) -> usize
+        requires { list.Inside self × (own.row < self.table.rows) × (own ≡ list.lead_of self own.row)
+            × list.LeadsBefore self own.row leads.now (length leads.now) }
+        ensures { list.FirstLead self.entry leads.now own.row result }
+    {
+        for lead in leads {
+            if lead.hash == own.hash
+                && same_keys(self.row(lead.row), self.row(own.row), self.keys)
+            {
+                return lead.row;
+            }
+        }
+        own.row
+    }
 }
 
 // For each row the next one with its leader; where there is none, how many rows there are.
@@ -49,42 +97,13 @@ pub fn chain(leaders: &[usize; 256], rows: usize) -> [usize; 256]
     next
 }
 
-// The first row with the keys of a row: one of the rows that lead groups, or the row itself. Where hash values differ, the keys are not looked at.
-fn first_same(
-    values: &[i64],
-    leads: &[Lead],
-    at: usize,
-    columns: usize,
-    keys: u32,
-    row: usize,
-    hash: u64,
-) -> usize
-    requires row_bound { (row < 256) × (columns ≤ 8) × (at + (row * columns + columns) ≤ length values.now) }
-    requires leads_len { (length leads.now ≤ row) × ((i : ℕ) → i < length leads.now → get_or (spec.rows_of leads.now) i 0 < row) }
-    requires hashed { Hashed keys columns values.now at (spec.rows_of leads.now) (length leads.now) (spec.hashes_of leads.now)
-        × (hash ≡ hash_at keys values.now (at + row * columns) columns) }
-    requires by_index { (labels : List ℕ) → at + (row * columns + columns) ≤ length labels
-        → spec.Leads keys columns (table_rows columns row (cells_of values.now labels) at) row (spec.rows_of leads.now) (length leads.now) }
-    ensures { (labels : List ℕ) → at + (row * columns + columns) ≤ length labels
-        → result ≡ spec.first_of keys columns row (cells_of values.now labels) at }
+// Whether two rows of as many columns have the same keys.
+fn same_keys(first: &[i64], second: &[i64], keys: u32) -> bool
+    requires { (length first.now ≤ 8) × (length second.now ≡ length first.now) }
+    ensures { result ≡ list.same_values keys first.now second.now }
 {
-    let own = at + row * columns;
-    for lead in leads {
-        if lead.hash == hash && same_keys(values, at + lead.row * columns, own, columns, keys) {
-            return lead.row;
-        }
-    }
-    row
-}
-
-// Whether the rows that begin at two places have the same keys.
-fn same_keys(values: &[i64], first: usize, second: usize, columns: usize, keys: u32) -> bool
-    requires { (columns ≤ 8) × (first + columns ≤ length values.now) × (second + columns ≤ length values.now) }
-    ensures { (labels : List ℕ) → first + columns ≤ length labels → second + columns ≤ length labels
-        → result ≡ spec.same_at keys columns (cells_of values.now labels) first second }
-{
-    for column in 0..columns {
-        if (keys >> column) % 2 == 1 && !same(values[first + column], values[second + column]) {
+    for column in 0..first.len() {
+        if (keys >> column) % 2 == 1 && !same(first[column], second[column]) {
             return false;
         }
     }

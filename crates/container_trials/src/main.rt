@@ -4,6 +4,7 @@
 
 use std::io;
 
+// One call, so nothing is left to share with the other programs.
 fn main(rt: HostRuntime) -> io::Result<()> {
     arguments::for_each_file(&rt, |container| answer(&rt, container))
 }

@@ -1,10 +1,16 @@
 -- The tests of a reader, as facts. Assumes nothing.
 use Prim.Native.Nat.{ℕ, ◌+◌, ◌*◌, ◌^◌, ◌≤◌, ◌<◌}
-use mathlib.Core.Path.{◌≡◌, refl, ap, ◌∙◌}
-use mathlib.Core.Bool.{Bool, true, false, cond, ◌&&◌, and-eq-true_iff}
+use mathlib.Core.Path.{◌≡◌, refl, sym}
+use mathlib.Core.Bool.{Bool, true, false, ◌&&◌, and-eq-true_iff}
 use native.Mathlib.Omega.{arith}
-use lib.Dec.{leb, ltb}
-use borrow.Author.Tests.{leb-true, ltb-true, le-leb, lt-leb, lt-ltb, le-ltb}
+use mathlib.Core.List.{List}
+use lib.Dec.{leb, ltb, eqb}
+use lib.ListN.{length, get_or}
+use borrow.Author.Tests.{eqb-true, eqb-false, eq-eqb, ne_eqb, leb-true, ltb-true, le-leb, lt-leb, lt-ltb, le-ltb}
+use Rattle.std.specs.Prelude.{cond, Option, Some, None}
+use Rattle.std.specs.Option.{option_eq}
+use Rattle.std.specs.Slice.{IsItemAt}
+use Rattle.std.proofs.Common.{Bor}
 use Rattle.csv_reader.specs.Reader.{largest, is_digit, digit_of, more_digits}
 
 pub and-false : (a : Bool) → (a && false) ≡ false
@@ -51,19 +57,24 @@ more-is negative size byte e =
     let k = (and-eq-true_iff (is_digit byte) (ltb 0 size)).0 h.0 in
     record { digit = k.0; some = ltb-true 0 size k.1; fits = leb-true (10 * size + digit_of byte) (largest negative) h.1 }
 
--- the size with a digit more tells whether it was taken
-pub more-taken : (negative : Bool) (size byte : ℕ) {r : ℕ} → r ≡ cond (more_digits negative size byte) (10 * size + digit_of byte) 0 → 0 < r
-    → (more_digits negative size byte ≡ true) × (r ≡ 10 * size + digit_of byte)
-more-taken negative size byte {r} e h = go (more_digits negative size byte) e
-  where
-    go : (t : Bool) → r ≡ cond t (10 * size + digit_of byte) 0 → (t ≡ true) × (r ≡ 10 * size + digit_of byte)
-    go true f = (refl, f)
-    go false f = absurd (omega arith)
+-- what may be there tells whether it was taken
+pub taken : {A : Type 0} (t : Bool) {x y : A} → Some y ≡ cond t (Some x) None → (t ≡ true) × (y ≡ x)
+taken true e = (refl, cc)
+taken false e = cc
 
-pub none-taken : (negative : Bool) (size byte : ℕ) {r : ℕ} → r ≡ cond (more_digits negative size byte) (10 * size + digit_of byte) 0 → r ≤ 0
-    → more_digits negative size byte ≡ false
-none-taken negative size byte {r} e h = go (more_digits negative size byte) refl
+pub not_taken : {A : Type 0} (t : Bool) (x : A) → None ≡ cond t (Some x) None → t ≡ false
+not_taken true x e = cc
+not_taken false x e = refl
+
+either-way : (a b : ℕ) → eqb a b ≡ eqb b a
+either-way a b = go (eqb a b) refl
   where
-    go : (t : Bool) → more_digits negative size byte ≡ t → t ≡ false
-    go true f = absurd (omega (arith, (more-is negative size byte f).some, e ∙ ap (λ (b : Bool). cond b (10 * size + digit_of byte) 0) f))
-    go false f = refl
+    go : (t : Bool) → eqb a b ≡ t → t ≡ eqb b a
+    go true e = sym (eq-eqb b a (sym (eqb-true a b e)))
+    go false e = sym (ne_eqb b a (λ f. eqb-false a b e (sym f)))
+
+-- a byte is the next one of a list
+pub is_next : (xs : List ℕ) (i : ℕ) (r : Option (Bor ℕ)) (byte : Bor ℕ) → IsItemAt xs i r
+    → option_eq (λ x y. eqb x.now y.now) r (Some byte) ≡ (ltb i (length xs) && eqb byte.now (get_or xs i 0))
+is_next xs i None byte h = rw (← h.0) refl
+is_next xs i (Some x) byte h = rw (← h.0, ← h.4 (omega arith) 0) (either-way x.now byte.now)

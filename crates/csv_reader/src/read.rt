@@ -20,7 +20,7 @@ pub enum ReadingError {
     DoesNotFit,
 }
 
-// What a pass over the bytes of a table counts: its columns, rows and values.
+// What a pass over the bytes of a table counts: its columns, rows and values. Nothing compares two of them.
 #[derive(Clone, Copy)]
 struct Counts {
     columns: usize,
@@ -57,23 +57,23 @@ fn value_of(negative: bool, size: u64) -> i64
     }
 }
 
-// Writes a value if it is among the first `room`, and answers how many there are with it.
-fn put_one(values: &mut [i64], room: usize, count: usize, value: i64) -> usize
-    requires { (room ≤ length values.old) × (count < 2 ^ 63) }
-    ensures { (result ≡ count + 1) × (values.new ≡ stored room count (value ∷ []) values.old) }
+// Writes a value where the slice has room for it, and answers how many there are with it.
+fn put_one(values: &mut [i64], count: usize, value: i64) -> usize
+    requires { count < 2 ^ 63 }
+    ensures { (result ≡ count + 1) × (values.new ≡ stored count (value ∷ []) values.old) }
 {
-    if count < room {
+    // A proof knows no value behind the place that `get_mut` lends, so the place is tested and written by its number.
+    if count < values.len() {
         values[count] = value;
-        return count + 1;
     }
     count + 1
 }
 
-// Writes the value that a byte ends, if it ends one and it is among the first `room`, and answers how many there are with it.
+// Writes the value that a byte ends, if it ends one and the slice has room for it, and answers how many there are with it.
 #[tactic(auto, unfolding(crate::specs::Reader::ended))]
-fn put_ended(values: &mut [i64], room: usize, count: usize, spot: Spot, byte: u8) -> usize
-    requires { (room ≤ length values.old) × (count < 2 ^ 63) × size_fits spot }
-    ensures { (result ≡ count + length (ended spot byte)) × (values.new ≡ stored room count (ended spot byte) values.old) }
+fn put_ended(values: &mut [i64], count: usize, spot: Spot, byte: u8) -> usize
+    requires { (count < 2 ^ 63) × size_fits spot }
+    ensures { (result ≡ count + length (ended spot byte)) × (values.new ≡ stored count (ended spot byte) values.old) }
 {
     let Spot::Digits(_, _, negative, size) = spot else {
         return count;
@@ -81,7 +81,7 @@ fn put_ended(values: &mut [i64], room: usize, count: usize, spot: Spot, byte: u8
     if is_digit(byte) {
         return count;
     }
-    put_one(values, room, count, value_of(negative, size))
+    put_one(values, count, value_of(negative, size))
 }
 
 // What a pass finds at the end of the bytes, at the place.
@@ -100,15 +100,10 @@ fn at_end(spot: Spot, rows: usize, count: usize, place: usize) -> Result<Counts,
     }
 }
 
-// Goes through the bytes once, and writes the first `room` values to the slice's start. Answers what it counts, or the place where the bytes fail.
-fn go_through(
-    text: &[u8],
-    fewest: usize,
-    values: &mut [i64],
-    room: usize,
-) -> Result<Counts, ReadingError>
-    requires { room ≤ length values.old }
-    ensures { Passed (read_from fewest (Spot.Names 0) [] 0 0 text.now) room values.old result values.new }
+// Goes through the bytes once, and writes as many of the values as the slice has room for to its start. Answers what it counts, or the place where the
+// bytes fail.
+fn go_through(text: &[u8], fewest: usize, values: &mut [i64]) -> Result<Counts, ReadingError>
+    ensures { Passed (read_from fewest (Spot.Names 0) [] 0 0 text.now) values.old result values.new }
 {
     let mut spot = Spot::Names(0);
     let mut count = 0;
@@ -118,7 +113,7 @@ fn go_through(
         if is_wrong(then) {
             return Err(ReadingError::Wrong(i));
         }
-        count = put_ended(values, room, count, spot, byte);
+        count = put_ended(values, count, spot, byte);
         rows += rows_ended(spot);
         spot = then;
     }
@@ -134,11 +129,11 @@ pub fn read_text(text: &[u8], fewest: usize, values: &mut [i64]) -> Result<TextT
     if 8 < fewest {
         return Err(ReadingError::Wrong(0));
     }
-    let found = go_through(text, fewest, values, 0)?;
+    let found = go_through(text, fewest, &mut values[..0])?;
     if values.len() < found.count {
         return Err(ReadingError::DoesNotFit);
     }
-    let _ = go_through(text, fewest, values, found.count);
+    let _ = go_through(text, fewest, &mut values[..found.count]);
     Ok(TextTable {
         columns: found.columns,
         rows: found.rows,

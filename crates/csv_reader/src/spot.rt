@@ -1,13 +1,13 @@
 // Where a reader of a text stands, and where a byte takes it.
-ghost use Rattle.std.specs.Prelude.{◌≡◌, ◌+◌, ◌*◌, cond, ◌&&◌, eqb, ltb, get_or};
+ghost use Rattle.std.specs.Prelude.{◌≡◌, ◌+◌, ◌*◌, cond};
 ghost use Rattle.csv_reader.specs.Reader as spec;
-ghost use Rattle.csv_text.specs.Text.{names};
 
-use csv_text::{end_byte, name_byte};
+use csv_text::{LINE_END, NAMES};
 
 // Behind so many bytes of the names; behind the CR of a header of so many columns; in a row of so many columns, of which so many are left:
 // before a value, behind its minus sign, or behind digits of it, with its sign and its size so far; behind the CR of a row; nowhere in a text.
-// `Wrong` stays in place of an `Option`: it is a state of the definition `next_spot`.
+// `Wrong` is a state of its own, as in the definition `next_spot`: no byte leads out of it. The sign of `Digits` (whether the value is below zero) is
+// part of that state, as in the definition; so `largest`, `with_digit`, `after_digits` and `value_of` take it beside the size.
 #[derive(Clone, Copy)]
 pub enum Spot {
     Names(usize),
@@ -19,30 +19,21 @@ pub enum Spot {
     Wrong,
 }
 
+#[tactic(auto, unfolding(crate::specs::Reader::is_digit))]
 pub fn is_digit(byte: u8) -> bool
     ensures { result ≡ spec.is_digit byte }
 {
-    (48 <= byte) & (byte <= 57)
-}
-
-// Whether a byte is the next one of the names.
-fn is_name_byte(i: usize, byte: u8) -> bool
-    ensures { result ≡ (ltb i 23 && eqb byte (get_or names i 0)) }
-{
-    if i < 23 {
-        return byte == name_byte(i);
-    }
-    false
+    byte.is_ascii_digit()
 }
 
 fn after_names(fewest: usize, i: usize, byte: u8) -> Spot
     ensures { result ≡ spec.after_names fewest i byte }
 {
-    if is_name_byte(i, byte) {
+    if NAMES.get(i) == Some(&byte) {
         return Spot::Names(i + 1);
     }
     let columns = i / 3 + 1;
-    if (byte == end_byte(0)) & (i % 3 == 2) & (fewest <= columns) {
+    if (byte == LINE_END[0]) & (i % 3 == 2) & (fewest <= columns) {
         return Spot::Header(columns);
     }
     Spot::Wrong
@@ -51,7 +42,7 @@ fn after_names(fewest: usize, i: usize, byte: u8) -> Spot
 fn after_return(columns: usize, byte: u8) -> Spot
     ensures { result ≡ spec.after_return columns byte }
 {
-    if byte == end_byte(1) {
+    if byte == LINE_END[1] {
         Spot::Value(columns, columns)
     } else {
         Spot::Wrong
@@ -79,7 +70,7 @@ fn after_minus(columns: usize, left: usize, byte: u8) -> Spot
     Spot::Wrong
 }
 
-// The largest size of a value below zero, and of any other.
+// The largest size of a value below zero, and of any other: two constants, one more than the other.
 fn largest(negative: bool) -> u64
     ensures { result ≡ spec.largest negative }
 {
@@ -90,31 +81,33 @@ fn largest(negative: bool) -> u64
     }
 }
 
-// A size with a digit more; 0 where the byte is no digit, or none that may follow.
-fn with_digit(negative: bool, size: u64, byte: u8) -> u64
-    ensures { result ≡ cond (spec.more_digits negative size byte) (10 * size + spec.digit_of byte) 0 }
+// A size with a digit more; None where the byte is no digit, or none that may follow.
+fn with_digit(negative: bool, size: u64, byte: u8) -> Option<u64>
+    ensures { result ≡ cond (spec.more_digits negative size byte) (Some (10 * size + spec.digit_of byte)) None }
 {
     if !is_digit(byte) {
-        return 0;
+        return None;
     }
     if size == 0 {
-        return 0;
+        return None;
     }
     if 14_073_748_835_532 < size {
-        return 0;
+        return None;
     }
     let more = 10 * size + (byte - 48) as u64;
-    if more <= largest(negative) { more } else { 0 }
+    if more <= largest(negative) {
+        return Some(more);
+    }
+    None
 }
 
 fn after_digits(columns: usize, left: usize, negative: bool, size: u64, byte: u8) -> Spot
     ensures { result ≡ spec.after_digits columns left negative size byte }
 {
-    let more = with_digit(negative, size, byte);
-    if 0 < more {
+    if let Some(more) = with_digit(negative, size, byte) {
         return Spot::Digits(columns, left, negative, more);
     }
-    if (left == 1) & (byte == end_byte(0)) {
+    if (left == 1) & (byte == LINE_END[0]) {
         return Spot::Row(columns);
     }
     if (1 < left) & (byte == b',') {

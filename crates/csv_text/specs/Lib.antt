@@ -1,2 +1,3 @@
--- A table's comma-separated text. This file is what a reader must believe.
+-- A table's comma-separated text. `Text` is what a reader must believe; `promises` is what the crates promise one another.
 pub mod Text
+pub mod promises

@@ -1,6 +1,6 @@
 -- What the functions that write a text answer, by cases. Assumes nothing.
 use Prim.Native.Nat.{ℕ, ◌+◌, ◌*◌, ◌≤◌, ◌<◌}
-use mathlib.Core.Path.{◌≡◌, refl, ap, ◌∙◌}
+use mathlib.Core.Path.{◌≡◌, refl, sym, ap, ◌∙◌}
 use mathlib.Core.Bool.{Bool, true, false, cond, and-eq-true_iff}
 use mathlib.Core.List.{List}
 use native.Mathlib.Omega.{arith}
@@ -8,7 +8,8 @@ use lib.Dec.{leb}
 use lib.IntN.{ℤ}
 use lib.ListN.{length, take}
 use borrow.Author.Tests.{leb-true, le-leb, lt-leb}
-use Rattle.std.specs.Prelude.{Result, Ok, Err}
+use Rattle.std.specs.Prelude.{Option, Some, None, Result, Ok, Err}
+use Rattle.std.specs.Option.{ok_or}
 use Rattle.cells.specs.promises.Search.{table_within}
 use Rattle.cells.specs.promises.Written as cells
 use Rattle.cells.proofs.Written.{then-written}
@@ -31,19 +32,23 @@ module _ (values : List ℤ) (rows columns : ℕ) where
   length-is e = let t = table-parts e in text-length columns rows values t.0 t.1 t.2
 
   -- the length tells whether there is a table
-  pub no-table : {n : ℕ} → n ≡ text_length values rows columns → n ≡ 0 → is_table values rows columns ≡ false
-  no-table {n} e z = go (is_table values rows columns) refl
+  pub a-table : {r : Option ℕ} {n : ℕ} → r ≡ text_length values rows columns → r ≡ Some n → (is_table values rows columns ≡ true) × (n ≡ length (text_from values rows columns))
+  a-table {r} {n} e f = go (is_table values rows columns) (sym f ∙ e)
     where
-      go : (t : Bool) → is_table values rows columns ≡ t → t ≡ false
-      go false f = refl
-      go true f = absurd (omega (arith, e ∙ ap (λ (b : Bool). cond b (length (text_from values rows columns)) 0) f, length-is f))
+      go : (t : Bool) → Some n ≡ cond t (Some (length (text_from values rows columns))) None → (t ≡ true) × (n ≡ length (text_from values rows columns))
+      go false g = cc
+      go true g = (refl, cc)
 
-  pub a-table : {n : ℕ} → n ≡ text_length values rows columns → (n ≡ 0 → ⊥) → (is_table values rows columns ≡ true) × (n ≡ length (text_from values rows columns))
-  a-table {n} e z = go (is_table values rows columns) refl
+  pub no-table : {r : Option ℕ} {w : WritingError} → r ≡ text_length values rows columns → r ≡ None → Err w ≡ ok_or {T = ℕ} r NoTable
+      → (is_table values rows columns ≡ false) × (w ≡ NoTable)
+  no-table {r} {w} e f g = (go (is_table values rows columns) (sym f ∙ e), error (rw f at g))
     where
-      go : (t : Bool) → is_table values rows columns ≡ t → (t ≡ true) × (n ≡ length (text_from values rows columns))
-      go false f = absurd (z (e ∙ ap (λ (b : Bool). cond b (length (text_from values rows columns)) 0) f))
-      go true f = (refl, e ∙ ap (λ (b : Bool). cond b (length (text_from values rows columns)) 0) f)
+      error : Err w ≡ ok_or {T = ℕ} None NoTable → w ≡ NoTable
+      error h = cc
+
+      go : (t : Bool) → None ≡ cond t (Some (length (text_from values rows columns))) None → t ≡ false
+      go false h = refl
+      go true h = cc
 
   abbrev pub Answered : List ℕ → Result ℕ WritingError → List ℕ → Type 0
   Answered text answer after = (answer ≡ writing_of values rows columns text) × (after ≡ text_after values rows columns text)

@@ -4,7 +4,7 @@ ghost use Rattle.csv_text.specs.Text.{digits, decimal};
 ghost use Rattle.csv_writer.specs.promises.Cells.{separator, next_left};
 ghost use Rattle.csv_writer.specs.promises.Writing.{text_length};
 
-use cells::table_within;
+use cells::Area;
 use value::pattern::{magnitude, negative};
 
 // How many digits a number has, where these are one to four more than `below`; `power` is 10^below.
@@ -68,18 +68,24 @@ pub fn next_left(columns: usize, left: usize) -> usize
     if left == 1 { columns } else { left - 1 }
 }
 
-// The length of the text of the table of so many rows and columns at the start of the values; 0 where they have no such table.
-pub fn text_length(values: &[i64], rows: usize, columns: usize) -> usize
+// The length of the text of the table of so many rows and columns at the start of the values; None where they have no such table.
+pub fn text_length(values: &[i64], rows: usize, columns: usize) -> Option<usize>
     ensures { result ≡ text_length values.now rows columns }
 {
-    if columns == 0 || !table_within(0, rows, columns, values.len()) {
-        return 0;
+    let table = Area {
+        at: 0,
+        rows,
+        columns,
+    };
+    if columns == 0 || !table.within(values.len()) {
+        return None;
     }
     let mut bytes = 3 * columns + 1;
+    // What is left of a row is counted as `put_rows` counts it, so that one definition serves the length and the text.
     let mut left = columns;
     for &value in &values[..rows * columns] {
         bytes += value_length(value) + separator_length(left);
         left = next_left(columns, left);
     }
-    bytes
+    Some(bytes)
 }

@@ -2,61 +2,60 @@
 ghost use Rattle.std.specs.Prelude.{◌≡◌, ◌+◌, ◌*◌, ◌≤◌, ◌<◌, length, take};
 ghost use Rattle.cells.specs.promises.Written.{Written};
 ghost use Rattle.csv_text.specs.Text.{digits, decimal, header, line_end};
-ghost use Rattle.csv_writer.specs.promises.Cells.{pair_of, digit_pairs, separator, spelled};
+ghost use Rattle.csv_writer.specs.promises.Cells.{pair_of, separator, spelled};
 ghost use Rattle.csv_writer.specs.promises.Writing.{writing_of, text_after};
 
 use crate::length::{digit_count, next_left, text_length};
 use csv_text::{LINE_END, NAMES};
 use value::pattern::{magnitude, negative};
 
-// The two digits of each number below 100, one pair after the other. A function that names this list makes a copy of it at each call, so
-// the functions for one value borrow it.
-const PAIRS: [u8; 200] =
+// The two digits of each number below 100, one pair after the other.
+static PAIRS: [u8; 200] =
     *b"00010203040506070809101112131415161718192021222324252627282930313233343536373839404142434445464748495051525354555657585960616263646566676869707172737475767778798081828384858687888990919293949596979899";
 
 // Writes the two digits of a number below 100 from a place on.
-fn put_pair(text: &mut [u8], at: usize, pair: usize, pairs: &[u8; 200])
-    requires { (pair < 100) × (at + 2 ≤ length text.old) × (pairs.now ≡ digit_pairs) }
+fn put_pair(text: &mut [u8], at: usize, pair: usize)
+    requires { (pair < 100) × (at + 2 ≤ length text.old) }
     ensures { Written text.old at (pair_of pair) text.new }
 {
-    let tens = pairs[2 * pair];
-    let units = pairs[2 * pair + 1];
+    let tens = PAIRS[2 * pair];
+    let units = PAIRS[2 * pair + 1];
     text[at] = tens;
     text[at + 1] = units;
 }
 
-// Writes the digits of a number from a place on, the last two first.
-fn put_digits(text: &mut [u8], at: usize, n: u64, count: usize, pairs: &[u8; 200])
-    requires { (count ≡ length (digits n)) × (at + count ≤ length text.old) × (pairs.now ≡ digit_pairs) }
+// Writes the digits of a number from a place on, the last two first. How many are left ends the loop, so that no index is counted.
+fn put_digits(text: &mut [u8], at: usize, n: u64, count: usize)
+    requires { (count ≡ length (digits n)) × (at + count ≤ length text.old) }
     ensures { Written text.old at (digits n) text.new }
 {
     let mut left = count;
     let mut rest = n;
     while rest >= 100 {
         left -= 2;
-        put_pair(text, at + left, (rest % 100) as usize, pairs);
+        put_pair(text, at + left, (rest % 100) as usize);
         rest /= 100;
     }
     if rest >= 10 {
-        put_pair(text, at, rest as usize, pairs);
+        put_pair(text, at, rest as usize);
     } else {
         text[at] = 48 + rest as u8;
     }
 }
 
 // Writes a value from a place on, and answers where it ends.
-fn put_value(text: &mut [u8], at: usize, v: i64, pairs: &[u8; 200]) -> usize
-    requires { (at + length (decimal v) ≤ length text.old) × (pairs.now ≡ digit_pairs) }
+fn put_value(text: &mut [u8], at: usize, v: i64) -> usize
+    requires { at + length (decimal v) ≤ length text.old }
     ensures { (result ≡ at + length (decimal v)) × Written text.old at (decimal v) text.new }
 {
     let size = magnitude(v);
     let count = digit_count(size);
     if negative(v) {
         text[at] = b'-';
-        put_digits(text, at + 1, size, count, pairs);
+        put_digits(text, at + 1, size, count);
         return at + 1 + count;
     }
-    put_digits(text, at, size, count, pairs);
+    put_digits(text, at, size, count);
     at + count
 }
 
@@ -99,7 +98,7 @@ fn put_rows(text: &mut [u8], at: usize, values: &[i64], columns: usize)
     let mut to = at;
     let mut left = columns;
     for &value in values {
-        to = put_value(text, to, value, &PAIRS);
+        to = put_value(text, to, value);
         to = put_separator(text, to, left);
         left = next_left(columns, left);
     }
@@ -123,10 +122,7 @@ pub fn write_text(
     ensures value { result ≡ writing_of values.now rows columns text.old }
     ensures text_after { text.new ≡ text_after values.now rows columns text.old }
 {
-    let needed = text_length(values, rows, columns);
-    if needed == 0 {
-        return Err(WritingError::NoTable);
-    }
+    let needed = text_length(values, rows, columns).ok_or(WritingError::NoTable)?;
     if text.len() < needed {
         return Err(WritingError::TooShort);
     }

@@ -1,10 +1,13 @@
 // A run of the monitor.
-ghost use Rattle.std.specs.Prelude.{◌≡◌};
+ghost use Rattle.std.specs.Prelude.{◌≡◌, map};
+ghost use Rattle.cells.specs.promises.Lent.{SameCells};
 ghost use Rattle.demands.specs.Given.{given};
 ghost use Rattle.demands.specs.Lent.{lent};
 ghost use Rattle.demands.specs.Monitor.{ended, monitor};
 ghost use Rattle.run_answers.specs.Answers.{run_says};
+ghost use Rattle.walk.specs.promises.Walk.{given_of};
 
+use cells::LentCells;
 use run_answers::{Released, RunRefusal};
 use walk::WalkRefusal;
 
@@ -33,13 +36,36 @@ pub fn run(
         (lent values.old labels.old marks.old output.old trace.old
         text.old) }
 {
+    let overlays = &[overlay_0, overlay_1, overlay_2, overlay_3];
+    let cells = &mut LentCells { values, labels };
+    run_over(
+        container, draws, overlays, cells, marks, output, trace, text,
+    )
+}
+
+// The same over the cells as they are lent, and the overlays in one array.
+fn run_over(
+    container: &[u8],
+    draws: &[i64],
+    overlays: &[&[u8]; 4],
+    cells: &mut LentCells,
+    marks: &mut [u64],
+    output: &mut [i64],
+    trace: &mut [u32],
+    text: &mut [u8],
+) -> Result<Released, RunRefusal>
+    ensures done { ended (run_says result)
+        (lent cells.new.values.now cells.new.labels.now marks.new output.new trace.new text.new)
+        ≡ monitor (given_of container.now draws.now (map (λ overlay. overlay.now) overlays.now))
+        (lent cells.old.values.now cells.old.labels.now marks.old output.old trace.old text.old) }
+    ensures same { SameCells cells.old cells.new }
+{
     if output.len() < 2048 {
         return Err(RunRefusal::TooShort);
     }
-    let overlays = [overlay_0, overlay_1, overlay_2, overlay_3];
-    let answer = match walk::walk(container, draws, &overlays, values, labels, marks, trace) {
+    let answer = match walk::walk(container, draws, overlays, cells, marks, trace) {
         Ok(left) => {
-            let told = release::release(values, labels, output, text, left.rows, left.columns);
+            let told = release::release(cells, output, text, left.rows, left.columns);
             run_answers::of_release(told, left.steps, left.rows, left.columns)
         }
         // Steps were taken, so work memory is cleared before this is answered; the two below come before the first step.
@@ -47,6 +73,6 @@ pub fn run(
         Err(WalkRefusal::TooShort) => return Err(RunRefusal::TooShort),
         Err(WalkRefusal::Input(refusal)) => return Err(RunRefusal::Input(refusal)),
     };
-    zeros::clear_memory(values, labels, marks);
+    zeros::clear_memory(cells, marks);
     answer
 }

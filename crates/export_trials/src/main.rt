@@ -6,6 +6,7 @@ use std::io;
 // More than the longest text.
 const LONG: usize = 40000;
 
+// One call, so nothing is left to share with the other programs.
 fn main(rt: HostRuntime) -> io::Result<()> {
     arguments::for_each_file(&rt, |container| trial(&rt, container))
 }
@@ -13,31 +14,24 @@ fn main(rt: HostRuntime) -> io::Result<()> {
 // Lends no byte, one too few, as many as the text has, and more; and prints the text.
 fn trial(rt: &impl Print, container: &[u8]) -> io::Result<()> {
     println!(rt)?;
-    let mut text = [0u8; LONG];
-    let needed = text_bytes(run(container, &mut text));
+    let mut bytes = [0u8; LONG];
+    let answer = run(container, &mut bytes);
+    let text = released(&bytes, answer);
     lend(rt, container, 0)?;
-    if 0 < needed {
-        lend(rt, container, needed - 1)?;
-        lend(rt, container, needed)?;
+    if let Some(text) = text {
+        lend(rt, container, text.len().saturating_sub(1))?;
+        lend(rt, container, text.len())?;
     }
     lend(rt, container, LONG)?;
-    beginning(rt, &text, needed)
+    rt.write_all(text.unwrap_or(&[]))
 }
 
-// So many bytes of a text.
-fn beginning(rt: &impl Print, bytes: &[u8], length: usize) -> io::Result<()> {
-    if let Some(text) = bytes.get(..length) {
-        rt.write_all(text)?;
-    }
-    Ok(())
-}
-
-// How many bytes the text of a release has, by its answer; 0 where there is none.
-fn text_bytes(answer: [u64; 4]) -> usize {
+// The text of a release, by its answer.
+fn released(bytes: &[u8], answer: [u64; 4]) -> Option<&[u8]> {
     if answer[0] == 0 {
-        answer[3] as usize
+        bytes.get(..answer[3] as usize)
     } else {
-        0
+        None
     }
 }
 

@@ -205,11 +205,10 @@ module _ (column : ℕ) (comparison : Comparison) (operand : Operand) {top : Liv
   failed t = row-skipped i s h (test-is ∙ t)
 
 -- all rows of the table have been tested
-pub filter-ends : {column : ℕ} {comparison : Comparison} {operand : Operand} {top : LiveTable} {m₀ m : Memory} {kept row : ℕ} → Stand top m₀ → row ≡ top.rows
-    → Filtering (passes column comparison operand) top m₀ m kept row → Filtered top column comparison operand m₀ kept m
-filter-ends {column} {comparison} {operand} {top} {m₀} {kept = kept} {row = row} i e s =
-    let marked : length (map (λ row. row.mark) (kept_of (passes column comparison operand) top m₀ row)) ≡ kept
-    = length-map (kept_of (passes column comparison operand) top m₀ row) (λ row. row.mark) ∙ sym s.kept-is in
+pub filter-ends : {pass : Row → Bool} {top : LiveTable} {m₀ m : Memory} {kept row : ℕ} → Stand top m₀ → row ≡ top.rows → Filtering pass top m₀ m kept row → Filtered top pass m₀ kept m
+filter-ends {pass} {top} {m₀} {kept = kept} {row = row} i e s =
+    let marked : length (map (λ row. row.mark) (kept_of pass top m₀ row)) ≡ kept
+    = length-map (kept_of pass top m₀ row) (λ row. row.mark) ∙ sym s.kept-is in
     record {
       counted = rw (← e) s.kept-is;
       cells = rw (← e) s.cells;

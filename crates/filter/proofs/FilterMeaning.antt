@@ -98,7 +98,7 @@ module _ (column : ℕ) (comparison : Comparison) (operand : Operand) where
       filter-fits-still {wrong} e = never-unfit (searched (Err wrong) e)
 
       pub filter-made : (count : ℕ) {after : Memory} → place_says 31 0 (Ok None) ≡ not_clear_at 31 0 labels top.at top.rows top.columns mask
-          → Filtered top column comparison operand m count after
+          → Filtered top (passes column comparison operand) m count after
           → Done step supply m stack (Ok (with_table stack top.slot width count)) after
       filter-made count {after} e g =
           let rows = passing (passes column comparison operand) (marked_in m top) in

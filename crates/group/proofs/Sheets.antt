@@ -7,18 +7,17 @@ use native.Mathlib.Nat.{zero-add, add-zero, add_assoc}
 use native.Mathlib.Omega.{arith}
 use lib.Dec.{eqb}
 use lib.ListN.{length, get_or, take, drop, set, replicate, length-append, length-take, length-map, length-set, length-replicate, get_or-replicate, drop_of_length-le}
-use lib.Seq.{drop-cons, get_or-take, get_or-drop, get_or-set_same, get_or-set_other, take_at}
-use borrow.Author.Tests.{eq-eqb, ne_eqb, eqb-true, eqb-false, le-leb}
+use lib.Seq.{drop-cons, get_or-take, get_or-set_same, get_or-set_other, take_at, take_all}
+use borrow.Author.Tests.{eq-eqb, ne_eqb, eqb-true, eqb-false}
 use Rattle.chains.specs.promises.Chains.{FirstLed, Chain, Onward}
 use Rattle.group.specs.promises.Members.{chosen, GroupSheets}
 use Rattle.mark_numbers.specs.promises.Numbers.{first_same, first_of, firsts_from, numbers_at}
 use Rattle.memory.specs.promises.Stack.{mark_part}
 use Rattle.plan.specs.Group.{any_mark, distinct_after, distinct}
 use Rattle.plan.specs.Table.{Each}
-use Rattle.cells.proofs.CellLaws.{le-within}
 use Rattle.group.proofs.Choosing.{chosen-next, chosen-map, drop-map, each_chosen}
 use Rattle.mark_numbers.proofs.Firsts.{first-mark, first-upto}
-use Rattle.mark_numbers.proofs.RowNumbers.{number_at}
+use Rattle.mark_numbers.proofs.RowNumbers.{numbers-is, number_at}
 use Rattle.memory.proofs.Stacks.{marks-count}
 use Rattle.plan.proofs.SenseEach.{each_at, each-drop}
 
@@ -47,42 +46,40 @@ module _ (f back : ℕ → ℕ) where
 -- ---- the first row with a mark as its number
 
 module _ (marks : List ℕ) (at rows : ℕ) (few : rows ≤ 256) (within : at + rows ≤ length marks) where
+  abbrev own : List ℕ
+  own = mark_part marks at rows
+
+  as_many : length own ≡ rows
+  as_many = marks-count marks at rows within
+
   abbrev first_row : ℕ → ℕ
-  first_row mark = first_same mark (drop at marks)
+  first_row mark = first_same mark own
 
   abbrev mark_of : ℕ → ℕ
-  mark_of row = get_or marks (at + row) 0
+  mark_of row = get_or own row 0
 
-  firsts-are : (row n : ℕ) → row + n ≤ rows → firsts_from marks at row n ≡ map first_row (take n (drop (at + row) marks))
+  firsts-are : (row n : ℕ) → row + n ≤ rows → firsts_from own row n ≡ map first_row (take n (drop row own))
   firsts-are row zero h = refl
-  firsts-are row (suc n) h =
-      let next : suc (at + row) ≡ at + suc row = omega arith in
-      rw (drop-cons marks (at + row) 0 (omega arith), next) (ap (λ (l : List ℕ). first_of marks at row ∷ l) (firsts-are (suc row) n (omega arith)))
+  firsts-are row (suc n) h = rw (drop-cons own row 0 (omega (arith, as_many))) (ap (λ (l : List ℕ). first_of own row ∷ l) (firsts-are (suc row) n (omega arith)))
 
-  pub numbers-are : take rows (numbers_at marks at rows) ≡ map first_row (mark_part marks at rows)
-  unfolding numbers_at
-  numbers-are =
-      let all : firsts_from marks at 0 rows ≡ map first_row (mark_part marks at rows) = firsts-are 0 rows (omega arith) ∙ ap (λ (n : ℕ). map first_row (take rows (drop n marks))) (add-zero at) in
-      let long : length (firsts_from marks at 0 rows) ≡ rows = ap length all ∙ length-map (mark_part marks at rows) first_row ∙ marks-count marks at rows within in
-      rw (le-leb rows 256 few, le-within at rows (length marks) within) (take_at (firsts_from marks at 0 rows) _ rows long ∙ all)
+  all-firsts : firsts_from own 0 rows ≡ map first_row own
+  all-firsts = firsts-are 0 rows (omega arith) ∙ ap (map first_row) (take_all rows own (omega (arith, as_many)))
+
+  all-long : length (firsts_from own 0 rows) ≡ rows
+  all-long = ap length all-firsts ∙ length-map own first_row ∙ as_many
+
+  pub numbers-are : take rows (numbers_at marks at rows) ≡ map first_row own
+  numbers-are = rw (numbers-is marks at rows few within) (take_at (firsts_from own 0 rows) _ rows all-long ∙ all-firsts)
 
   -- 256 numbers, each below 256
   pub numbers-long : length (numbers_at marks at rows) ≡ 256
-  unfolding numbers_at
-  numbers-long =
-      let all = firsts-are 0 rows (omega arith) in
-      let part : at + 0 + rows ≤ length marks = omega arith in
-      let some : length (firsts_from marks at 0 rows) ≡ rows = ap length all ∙ length-map (take rows (drop (at + 0) marks)) first_row ∙ marks-count marks (at + 0) rows part in
-      rw (le-leb rows 256 few, le-within at rows (length marks) within) (length-append (firsts_from marks at 0 rows) _ ∙ omega (arith, some, length-replicate {A = ℕ} (256 - rows) 0))
+  numbers-long = rw (numbers-is marks at rows few within) (length-append (firsts_from own 0 rows) _ ∙ omega (arith, all-long, length-replicate {A = ℕ} (256 - rows) 0))
 
   pub numbers-small : (row : ℕ) → row < rows → get_or (numbers_at marks at rows) row 0 < 256
-  numbers-small row h = omega (arith, number_at marks at rows row few within h, first-upto marks at row (omega arith))
+  numbers-small row h = omega (arith, number_at marks at rows few within row h, first-upto own row (omega (arith, as_many)))
 
-  told_back : Each (λ mark. mark_of (first_row mark) ≡ mark) (mark_part marks at rows)
-  told_back = each_at (λ mark. mark_of (first_row mark) ≡ mark) (mark_part marks at rows) 0 (λ row h.
-      let low : row < rows = rw (marks-count marks at rows within) at h in
-      let is : get_or (mark_part marks at rows) row 0 ≡ mark_of row = get_or-take rows (drop at marks) row 0 low ∙ get_or-drop at marks row 0 in
-      rw is (first-mark marks at row (omega arith)))
+  told_back : Each (λ mark. mark_of (first_row mark) ≡ mark) own
+  told_back = each_at (λ mark. mark_of (first_row mark) ≡ mark) own 0 (λ row h. first-mark own row h)
 
   -- the different numbers of some rows are as many as their different marks
   sheets-are : (row : ℕ) (leaders : List ℕ) → distinct (chosen row (drop row leaders) (drop row (take rows (numbers_at marks at rows)))) ≡ distinct (chosen row (drop row leaders) (drop row (mark_part marks at rows)))

@@ -10,7 +10,7 @@ use memory::LiveTable;
 pub use partition::group;
 use plan::Aggregate;
 
-// A GROUP of a live table, and the width of the rows made.
+// A GROUP of a live table, and the width of the rows made. Nothing compares two of them.
 #[derive(Clone, Copy)]
 struct Grouping {
     table: LiveTable,
@@ -18,4 +18,12 @@ struct Grouping {
     aggregate: Aggregate,
     column: usize,
     width: usize,
+}
+
+// A group: the row that leads it, and for each row of the table the next one of its group, or how many rows there are. The number of rows
+// stands for none, so that a walk along the group makes one comparison for each row.
+#[derive(Clone, Copy)]
+struct Led<'a> {
+    next: &'a [usize; 256],
+    row: usize,
 }

@@ -27,10 +27,11 @@ pub fn refusal(
 ) -> Result<(), StepError>
     ensures { step_says result ≡ spec.group_says labels.now table keys column }
 {
-    if !search::column_formed(labels, table.at, table.rows, table.columns, column) {
+    let area = table.area();
+    if !search::column_formed(labels, area, column) {
         return Err(StepError::DoesNotFit);
     }
-    if let Some(at) = search::not_clear(labels, table.at, table.rows, table.columns, keys)? {
+    if let Some(at) = search::not_clear(labels, area, keys)? {
         return Err(StepError::Refused(Refusal::NotClear(at)));
     }
     forbidden(labels, table, aggregate, column)

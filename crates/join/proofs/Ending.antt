@@ -8,7 +8,7 @@ use native.Mathlib.Omega.{arith}
 use lib.Dec.{ltb}
 use lib.ListN.{length, take, drop}
 use borrow.Author.Tests.{lt-ltb, le-ltb, ltb-true, ltb-false}
-use Rattle.std.specs.Prelude.{Some, None, Ok, Err}
+use Rattle.std.specs.Prelude.{Some, None, Result, Ok, Err, IsErrAnd}
 use Rattle.cells.specs.declared.At.{At}
 use Rattle.cells.specs.promises.Cells.{moved, can_move, Wide}
 use Rattle.cells.specs.promises.Search.{says, place_says}
@@ -16,7 +16,7 @@ use Rattle.cells.specs.promises.Work.{Memory, cells_in, mark_room, AllKept}
 use Rattle.cells.specs.promises.Written.{Put}
 use Rattle.pairs.specs.declared.Side.{Side}
 use Rattle.join.specs.promises.Ends.{side_of, Finished}
-use Rattle.pairs.specs.promises.Pairs.{Sides, MarksBelow, Joined, width, side_rows, side_labels, all_rows, left_marked, marked_rows}
+use Rattle.pairs.specs.promises.Pairs.{SidesFit, MarksBelow, Joined, width, side_rows, side_labels, all_rows, left_marked, marked_rows}
 use Rattle.live_tables.specs.declared.LiveTable.{LiveTable}
 use Rattle.memory.specs.declared.Refusal.{Refusal}
 use Rattle.memory.specs.declared.Refusal.TheVariants.{NotClear, TooMany}
@@ -33,7 +33,7 @@ use Rattle.cells.proofs.CellLaws.{moved_in, values-front, labels-front}
 use Rattle.cells.proofs.RowReads.{flat-length}
 use Rattle.cells.proofs.Rows.{marked-wide}
 use Rattle.cells.proofs.Written.{Moves}
-use Rattle.pairs.proofs.Growing.{cells-room, cells-in, rows-in-wide}
+use Rattle.pairs.proofs.Growing.{counted-few, counted-many, few-made, cells-room, cells-in, rows-in-wide}
 use Rattle.pairs.proofs.Joining.{rows-joined-wide}
 use Rattle.pairs.proofs.Marks.{all-length, all-flat}
 use Rattle.join.proofs.Meaning.{JoinFits, join-verdict, made-is}
@@ -42,18 +42,22 @@ use Rattle.memory.proofs.LiveTables.{at-is, marks-place, marks-inside, marked-ar
 use Rattle.memory.proofs.MovedDown.{down-values, down-labels, moved_down, marks-down}
 use Rattle.memory.proofs.Stacks.{fits-slot, marks-count}
 
-module _ {left right : Side} {m : Memory} (sides : Sides (length m.work.values) (length m.work.labels) left right) (marked : MarksBelow left (length m.marks))
-    {u : Memory} {count : ℕ} (j : Joined left right m count u) where
+-- what `?` makes of too many rows
+pub refusal-is : {made : Result ℕ Refusal} → IsErrAnd made (λ found. found ≡ TooMany) → made ≡ Err TooMany
+refusal-is {made = Ok rows} e = absurd e
+refusal-is {made = Err found} e = ap Err e
+
+module _ {left right : Side} (m : Memory) (sides : SidesFit (length m.work.values) (length m.work.labels) left right) (marked : MarksBelow left (length m.marks)) where
   abbrev rows : List Row
   rows = marked_rows m left right
 
   as_many : length rows ≡ length (all_rows (cells_in m.work) left right)
   as_many = all-length m left right marked
 
-  pub finished-over : 256 < count → Finished left right m (Err TooMany) u
-  finished-over h = record {
+  pub finished-over : {u : Memory} → Joined left right m (Err (record {})) u → Finished left right m (Err TooMany) u
+  finished-over j = record {
     refused = λ _. (refl, j.grown.below, j.marks-below);
-    made = λ k. absurd (omega (arith, j.grown.counted, as_many));
+    made = λ k. absurd (omega (arith, counted-many _ j.grown.counted, as_many));
     kept = record { work = j.grown.kept; marks = j.marks-kept };
   }
 
@@ -64,9 +68,12 @@ module _ {left right : Side} {m : Memory} (sides : Sides (length m.work.values) 
       rows-joined-wide left.key right.key left.table.columns right.table.columns sides.left_key sides.right_key (left_marked m left) (side_rows (cells_in m.work) right)
       (marked-wide left.table.columns part (drop left.table.at (cells_in m.work)) (rw counted (cells-in m.work sides left sides.left_below))) (rows-in-wide m.work sides right sides.right-below)
 
-  module _ (h : count ≤ 256) where
+  module _ {u : Memory} {count : ℕ} (j : Joined left right m (Ok count) u) where
     total : length rows ≡ count
-    total = omega (arith, j.grown.counted, as_many)
+    total = omega (arith, (counted-few _ j.grown.counted).0, as_many)
+
+    h : count ≤ 256
+    h = few-made m.work sides j.grown
 
     few : count * width left right ≤ 2048
     few = fits-slot count (width left right) h sides.few
@@ -77,7 +84,7 @@ module _ {left right : Side} {m : Memory} (sides : Sides (length m.work.values) 
         let e : last_slot + 0 * width left right ≡ last_slot = omega (arith, zero-mul (width left right)) in
         let long = flat-length (width left right) rows all-wide ∙ ap (λ (n : ℕ). n * width left right) total in
         record {
-          written = record { room = omega (arith, cells-room m.work sides, long, few); is = rw (all-flat m left right marked) (rw e at (j.grown.put (omega (arith, total, as_many)))) };
+          written = record { room = omega (arith, cells-room m.work sides, long, few); is = rw (all-flat m left right marked) (rw e at (j.grown.put (omega (arith, total, as_many, h)))) };
           kept = j.grown.kept;
         }
 
@@ -92,9 +99,9 @@ module _ {left right : Side} {m : Memory} (sides : Sides (length m.work.values) 
         → Finished left right m (Ok count) (record { work = moved_in last_slot left.table.at (count * width left right) u.work; marks = marks })
     finished-made low told is-marks =
         let down = moved_down left.table.at (width left right) count rows above all-wide total (omega (arith, sides.left_below)) few sides.values-room sides.labels-room in
-        let marks-moved = marks-down left.table.marks count rows (j.marked (omega (arith, total, as_many))) total low h marked.mark-room told is-marks in
+        let marks-moved = marks-down left.table.marks count rows (j.marked (omega (arith, total, as_many, h))) total low h marked.mark-room told is-marks in
         record {
-          refused = λ k. absurd (omega (arith, total));
+          refused = λ k. absurd (omega (arith, total, h));
           made = λ k. (ap Ok (sym total), down, marks-moved);
           kept = record { work = down.kept; marks = marks-moved.kept };
         }

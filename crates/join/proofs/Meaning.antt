@@ -10,7 +10,7 @@ use borrow.Author.Tests.{leb-true, ltb-true}
 use Rattle.cells.specs.promises.Work.{Memory, mark_room}
 use Rattle.pairs.specs.declared.Side.{Side}
 use Rattle.join.specs.promises.Ends.{side_of}
-use Rattle.pairs.specs.promises.Pairs.{Sides, MarksBelow, width, side_labels, marked_rows}
+use Rattle.pairs.specs.promises.Pairs.{SidesFit, MarksBelow, width, side_labels, marked_rows}
 use Rattle.live_tables.specs.declared.LiveTable.{LiveTable}
 use Rattle.live_tables.specs.declared.Stack.{Stack}
 use Rattle.memory.specs.promises.Stack.{Ready, last_marks, stack_in, widths_to, live_table, marked_in, Inside, MarksInside}
@@ -32,7 +32,7 @@ pub record JoinFits (left right values labels : ℕ) (stack : Stack) (lower uppe
   pub above : Stands stack 0 upper
   pub in-lower : Inside lower values labels
   pub in-upper : Inside upper values labels
-  pub sides : Sides values labels (side_of lower left) (side_of upper right)
+  pub sides : SidesFit values labels (side_of lower left) (side_of upper right)
   pub width_is : columns ≡ lower.columns + (upper.columns - 1)
 
 pub join-parts : (left right : ℕ) (tables : List ℕ) (values labels : ℕ) (stack : Stack) (lower upper : LiveTable) (columns : ℕ) → lower ≡ live_table stack 1 → upper ≡ live_table stack 0
@@ -75,7 +75,7 @@ lower-marks f room =
     (record { below = (marks-inside f.below f.ready-is room).below; mark-room = room }, omega (arith, marks-place f.below, f.below.low))
 
 -- the tables lie within the labels
-pub in-labels : {values labels : ℕ} {left right : Side} → Sides values labels left right → Sides labels labels left right
+pub in-labels : {values labels : ℕ} {left right : Side} → SidesFit values labels left right → SidesFit labels labels left right
 in-labels s = record {
   values-room = s.labels-room;
   labels-room = s.labels-room;

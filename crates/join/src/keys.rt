@@ -5,33 +5,23 @@ ghost use Rattle.cells.specs.promises.Search.{place_says};
 ghost use Rattle.cells.specs.promises.Search.{says};
 ghost use Rattle.pairs.specs.promises.Pairs as spec;
 
-use cells::{At, DoesNotFit};
-use pairs::Side;
+use cells::{At, DoesNotFit, LentCells};
+use pairs::Sides;
 
-// The first key that is not clear, the left keys before the right ones. Right rows are numbered on from the left.
-pub fn unclear_key(labels: &[u32], left: Side, right: Side) -> Result<Option<At>, DoesNotFit>
-    requires { spec.Sides (length labels.now) (length labels.now) left right }
+// The first key that is not clear, the left keys before the right ones. Right rows are numbered on from the left. It takes the
+// cells and not their labels: a slice lent out of a `&mut` in a struct is known by its length alone after the call.
+pub fn unclear_key(cells: &LentCells, sides: Sides) -> Result<Option<At>, DoesNotFit>
+    requires { spec.SidesFit (length cells.now.labels.now) (length cells.now.labels.now) sides.left sides.right }
     ensures { place_says 31 0 result ≡ says
-        (check_join left.key right.key (spec.side_labels labels.now left)
-        (spec.side_labels labels.now right)) }
+        (check_join sides.left.key sides.right.key (spec.side_labels cells.now.labels.now sides.left)
+        (spec.side_labels cells.now.labels.now sides.right)) }
 {
-    let first = search::not_clear(
-        labels,
-        left.table.at,
-        left.table.rows,
-        left.table.columns,
-        1 << left.key,
-    )?;
+    let Sides { left, right } = sides;
+    let first = search::not_clear(cells.labels, left.table.area(), 1 << left.key)?;
     if first.is_some() {
         return Ok(first);
     }
-    let second = search::not_clear(
-        labels,
-        right.table.at,
-        right.table.rows,
-        right.table.columns,
-        1 << right.key,
-    )?;
+    let second = search::not_clear(cells.labels, right.table.area(), 1 << right.key)?;
     let Some(at) = second else {
         return Ok(None);
     };

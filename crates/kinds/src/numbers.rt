@@ -1,4 +1,4 @@
-// The numbers of steps.
+// The numbers of steps, as documents 01 and 02 give them. They are no discriminants: some variants have fields.
 ghost use Rattle.std.specs.Prelude.{◌≡◌};
 ghost use Rattle.plan.specs.Numbers as spec;
 

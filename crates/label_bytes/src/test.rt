@@ -15,8 +15,8 @@ pub fn stage_count(label: &[u8; 4]) -> u32
     upper_ones(label[3])
 }
 
-// The ones of a byte's upper half, bit by bit while there is one left. `count_ones` is how the product counts: tests/labels takes the times of both, and
-// asks that this be the slower.
+// The ones of a byte's upper half, bit by bit while there is one left. `count_ones` is how the product counts: tests/labels takes the
+// times of both, and asks that this be the slower.
 fn upper_ones(byte: u8) -> u32
     ensures { result ≡ ones (byte / 16) }
 {

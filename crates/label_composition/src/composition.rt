@@ -44,7 +44,7 @@ fn allowed_both(a: u32, b: u32, stage: u32, at: u32, width: u32) -> u32
     merged(bit(a, stage), bit(b, stage), left & right, left, right)
 }
 
-// The digits that a cut must take off: the larger, and none where cut is lost.
+// The digits that a cut must take off: as in `allowed_both`, but the larger, and none where cut is lost.
 #[tactic(auto, unfolding(crate::specs::Composition::digits_both))]
 fn digits_both(a: u32, b: u32) -> u32
     ensures { result ≡ spec.digits_both a b }
@@ -55,7 +55,7 @@ fn digits_both(a: u32, b: u32) -> u32
     merged(bit(a, 30), bit(b, 30), both, left, right)
 }
 
-// The group minimum: the larger.
+// The group minimum: as in `allowed_both`, but the larger.
 #[tactic(auto, unfolding(crate::specs::Composition::minimum_both))]
 fn minimum_both(a: u32, b: u32) -> u32
     ensures { result ≡ spec.minimum_both a b }
@@ -65,7 +65,7 @@ fn minimum_both(a: u32, b: u32) -> u32
     merged(bit(a, 29), bit(b, 29), left.max(right), left, right)
 }
 
-// A field of a stage that the left, the right, both or none of two words have.
+// A field of a stage that the left, the right, both or none of two words have: both conditions are arguments of the definition `merged`.
 fn merged(in_left: bool, in_right: bool, both: u32, left: u32, right: u32) -> u32
     ensures { result ≡ spec.merged in_left in_right both left right }
 {

@@ -39,7 +39,7 @@ pub fn discharge_aggregate(word: u32, operation: u32, sheets: u32) -> Result<u32
 fn transform_exists(operation: u32, digits: u32) -> bool
     ensures { result ≡ spec.transform_exists operation digits }
 {
-    (operation < 4) & ((operation != 2) | ((1 <= digits) & (digits <= 6)))
+    (operation < 4) & ((operation != 2) | (1..=6).contains(&digits))
 }
 
 // Whether stage T allows the operation; a cut takes off at least the digits named there.

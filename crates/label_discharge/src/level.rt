@@ -7,6 +7,7 @@ ghost use Rattle.label_words.specs.Word.{bit_at};
 use label_words::{LabelRefusal, bit};
 
 // A level, by masks of a word: the stages above its own, and what stays where its own stage goes with its fields; and the bit of its own stage.
+// Nothing compares two of them.
 #[derive(Clone, Copy)]
 pub struct Level {
     above: u32,
@@ -33,7 +34,7 @@ pub const NOISE: Level = Level {
     kept: 0b1110_1111_0_00_11111_000_111_1111111111,
 };
 
-// The rule: forbidden under a stage above the level's own, and its own goes if it allows the operation.
+// The rule: forbidden under a stage above the level's own, and its own goes if it allows the operation, which each level tests in its own way.
 pub fn at_level(word: u32, level: Level, allowed: bool) -> Result<u32, LabelRefusal>
     ensures { label_says result ≡ cond (not (eqb (bit_and word level.above) 0)) forbidden
         (label (cond (bit_at word level.stage && allowed) (bit_and word level.kept) word)) }

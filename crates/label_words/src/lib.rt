@@ -8,7 +8,7 @@ mod text;
 pub use fields::{bit, field};
 pub use test::{highest_stage, stage_count, well_formed, well_formed_from};
 
-// The highest stage present.
+// The highest stage present, and Clear where there is none: the five answers of the definition `highest`.
 #[derive(Clone, Copy, Debug, PartialEq, Eq)]
 pub enum Highest {
     H,

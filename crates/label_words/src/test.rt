@@ -13,7 +13,7 @@ pub fn stage_count(word: u32) -> u32
     (word >> 28).count_ones()
 }
 
-// The highest stage of a word, by the zeros above it.
+// The highest stage of a word, by the zeros above it: their count tells which it is, without a test of each stage.
 pub fn highest_stage(word: u32) -> Highest
     ensures { result ≡ highest word }
 {

@@ -10,7 +10,7 @@ ghost use Rattle.layout_check.specs.Checks.{check_container};
 
 use directory::check_directory;
 use input::InputRefusal;
-use layout::rule_year;
+use layout::{part_count, rule_year};
 use little_endian::byte;
 
 // 11: the container's length, its rule year, its part count, and the room for its directory.
@@ -19,11 +19,11 @@ fn check_container(container: &[u8]) -> Result<(), InputRefusal>
     ensures { input_says result ≡ check_container container.now }
 {
     let len = container.len();
-    let count = byte(container, 0) as usize;
+    let count = part_count(container);
     if (65_536 < len)
         | (len < 2)
         | (1 < rule_year(container))
-        | !((2 <= count) & (count <= 9))
+        | !(2..=9).contains(&count)
         | (len < 2 + 8 * count)
     {
         Err(InputRefusal::Container)

@@ -3,8 +3,11 @@
 // of the rows, four slots of 256.
 #![tactic(auto)]
 
+ghost use Rattle.std.specs.Prelude.{◌≡◌};
+
 mod live;
 
+use cells::Area;
 pub use live::{live_table, no_tables, ready, with_table};
 
 // The elements that a slot has, where the last slot begins, and the elements of all four.
@@ -38,4 +41,19 @@ pub struct LiveTable {
     pub marks: usize,
     pub rows: usize,
     pub columns: usize,
+}
+
+impl LiveTable {
+    ghost use Rattle.live_tables.specs.promises.Live.{area_of};
+
+    // Where its cells stand in each slice of cells.
+    pub fn area(self) -> Area
+        ensures { result ≡ area_of self }
+    {
+        Area {
+            at: self.at,
+            rows: self.rows,
+            columns: self.columns,
+        }
+    }
 }

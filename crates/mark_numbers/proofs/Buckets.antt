@@ -1,85 +1,71 @@
 -- The rows that hash values lead to. Assumes nothing.
-use Prim.Native.Nat.{ℕ, zero, suc, ◌+◌, ◌-◌, ◌≤◌, ◌<◌, ◌%◌}
+use Prim.Native.Nat.{ℕ, ◌+◌, ◌<◌, ◌%◌}
 use mathlib.Core.Path.{◌≡◌, refl, sym, ap, ◌∙◌}
 use mathlib.Core.Bool.{Bool, true, false}
 use mathlib.Core.List.{List}
 use native.Mathlib.Nat.{mod-lt}
 use native.Mathlib.Omega.{arith}
 use lib.Dec.{eqb}
-use lib.ListN.{length, get_or, set, replicate, length-set}
+use lib.ListN.{length, get_or, set, replicate, get_or-replicate, length-set}
 use lib.Seq.{get_or-set_same, get_or-set_other}
 use borrow.Author.Count.{below_more}
 use borrow.Author.Tests.{eqb-true, eqb-false}
+use Rattle.std.specs.Prelude.{Option, Some, None}
 use Rattle.mark_numbers.specs.promises.Numbers.{first_of, Guess}
 use Rattle.mark_numbers.proofs.Firsts.{first-here, first-upto, first-own}
 
 -- the hash value of a row's mark
-abbrev pub bucket_of : List ℕ → ℕ → ℕ → ℕ
-bucket_of marks at row = get_or marks (at + row) 0 % 4096
+abbrev pub bucket_of : List ℕ → ℕ → ℕ
+bucket_of marks row = get_or marks row 0 % 4096
 
--- each hash value has a row before one that is the first with its mark, counted from 1; or zero, and then no row before has the hash value
-pub record Buckets (marks : List ℕ) (at row : ℕ) (last : List ℕ) : Type 0 where
+-- a row before one that is the first with its mark; or none, and then no row before has the hash value
+abbrev pub Last : List ℕ → ℕ → ℕ → Option ℕ → Type 0
+Last marks row bucket None = (other : ℕ) → other < row → bucket_of marks other ≡ bucket → ⊥
+Last marks row bucket (Some before) = (before < row) × (first_of marks before ≡ before)
+
+-- each hash value has one
+pub record Buckets (marks : List ℕ) (row : ℕ) (last : List (Option ℕ)) : Type 0 where
   pub full : length last ≡ 4096
-  pub upto : (bucket : ℕ) → get_or last bucket 0 ≤ row
-  pub first : (bucket : ℕ) → (get_or last bucket 0 ≡ 0 → ⊥) → first_of marks at (get_or last bucket 0 - 1) ≡ get_or last bucket 0 - 1
-  pub none : (bucket : ℕ) → get_or last bucket 0 ≡ 0 → (other : ℕ) → other < row → bucket_of marks at other ≡ bucket → ⊥
+  pub each : (bucket : ℕ) → bucket < 4096 → Last marks row bucket (get_or last bucket None)
 
-pub bucket-small : (marks : List ℕ) (at row : ℕ) → bucket_of marks at row < 4096
-bucket-small marks at row = mod-lt (get_or marks (at + row) 0) (omega arith)
+pub bucket-small : (marks : List ℕ) (row : ℕ) → bucket_of marks row < 4096
+bucket-small marks row = mod-lt (get_or marks row 0) (omega arith)
 
-zeros : (n i : ℕ) → get_or {A = ℕ} (replicate n 0) i 0 ≡ 0
-zeros zero i = refl
-zeros (suc n) zero = refl
-zeros (suc n) (suc i) = zeros n i
-
-module _ (marks : List ℕ) (at : ℕ) where
-  pub no_row : Buckets marks at 0 (replicate 4096 0)
+module _ (marks : List ℕ) where
+  pub no_row : Buckets marks 0 (replicate 4096 None)
   no_row = record {
     full = refl;
-    upto = λ bucket. omega (arith, zeros 4096 bucket);
-    first = λ bucket n. absurd (n (zeros 4096 bucket));
-    none = λ bucket e other h. absurd (omega arith);
+    each = λ bucket h. rw (get_or-replicate {A = Option ℕ} 4096 bucket None None h) (λ other k. absurd (omega arith));
   }
 
-  module _ (row : ℕ) (h : at + row < length marks) {last : List ℕ} (b : Buckets marks at row last) where
+  module _ (row : ℕ) (h : row < length marks) {last : List (Option ℕ)} (b : Buckets marks row last) where
     abbrev own : ℕ
-    own = bucket_of marks at row
+    own = bucket_of marks row
 
     -- what a row's hash value leads to is a guess at the first row with its mark
-    pub guessed : Guess marks at row (get_or last own 0)
-    guessed = record {
-      upto = b.upto own;
-      new = λ e. first-here marks at row h row (omega arith) refl (λ j k f. b.none own e j k (ap (λ (m : ℕ). m % 4096) f));
-      first = b.first own;
-    }
+    pub guessed : Guess marks row (get_or last own None)
+    guessed = go (get_or last own None) (b.each own (bucket-small marks row))
+      where
+        go : (guess : Option ℕ) → Last marks row own guess → Guess marks row guess
+        go None none = first-here marks row h row (omega arith) refl (λ j k f. none j k (ap (λ (m : ℕ). m % 4096) f))
+        go (Some before) is = is
 
-    module _ (first : ℕ) (is : first ≡ first_of marks at row) where
-      here : get_or (set last own (first + 1)) own 0 ≡ first + 1
-      here = get_or-set_same last own (first + 1) 0 (omega (arith, b.full, bucket-small marks at row))
+    module _ (first : ℕ) (is : first ≡ first_of marks row) where
+      -- that of another hash value stays
+      still : (bucket : ℕ) → (bucket ≡ own → ⊥) → (guess : Option ℕ) → Last marks row bucket guess → Last marks (row + 1) bucket guess
+      still bucket n None none = below_more (λ other. bucket_of marks other ≡ bucket → ⊥) row none (λ f. n (sym f))
+      still bucket n (Some before) p = (omega (arith, p.0), p.1)
 
-      there : (bucket : ℕ) → (bucket ≡ own → ⊥) → get_or (set last own (first + 1)) bucket 0 ≡ get_or last bucket 0
-      there bucket n = get_or-set_other last own bucket (first + 1) 0 n
-
-      pub one-row : Buckets marks at (row + 1) (set last own (first + 1))
+      pub one-row : Buckets marks (row + 1) (set last own (Some first))
       one-row = record {
-        full = length-set last own (first + 1) ∙ b.full;
-        upto = λ bucket. upto bucket (eqb bucket own) refl;
-        first = λ bucket. led bucket (eqb bucket own) refl;
-        none = λ bucket. none bucket (eqb bucket own) refl;
+        full = length-set last own (Some first) ∙ b.full;
+        each = λ bucket k. each bucket k (eqb bucket own) refl;
       }
         where
-          upto : (bucket : ℕ) (t : Bool) → eqb bucket own ≡ t → get_or (set last own (first + 1)) bucket 0 ≤ row + 1
-          upto bucket true e = rw (eqb-true bucket own e, here) (omega (arith, first-upto marks at row h))
-          upto bucket false e = rw (there bucket (eqb-false bucket own e)) (omega (arith, b.upto bucket))
-
-          led : (bucket : ℕ) (t : Bool) → eqb bucket own ≡ t → (get_or (set last own (first + 1)) bucket 0 ≡ 0 → ⊥)
-              → first_of marks at (get_or (set last own (first + 1)) bucket 0 - 1) ≡ get_or (set last own (first + 1)) bucket 0 - 1
-          led bucket true e n = let s : first + 1 - 1 ≡ first = omega arith in rw (eqb-true bucket own e, here, s, is) (first-own marks at row h)
-          led bucket false e n = let k = there bucket (eqb-false bucket own e) in rw k (b.first bucket (rw k at n))
-
-          none : (bucket : ℕ) (t : Bool) → eqb bucket own ≡ t → get_or (set last own (first + 1)) bucket 0 ≡ 0 → (other : ℕ) → other < row + 1
-              → bucket_of marks at other ≡ bucket → ⊥
-          none bucket true e z = let w = rw (eqb-true bucket own e, here) at z in absurd (omega arith)
-          none bucket false e z =
+          each : (bucket : ℕ) → bucket < 4096 → (t : Bool) → eqb bucket own ≡ t → Last marks (row + 1) bucket (get_or (set last own (Some first)) bucket None)
+          each bucket k true e =
+              rw (eqb-true bucket own e, get_or-set_same last own (Some first) None (omega (arith, b.full, bucket-small marks row)))
+              (omega (arith, is, first-upto marks row h), rw is (first-own marks row h))
+          each bucket k false e =
               let n = eqb-false bucket own e in
-              below_more (λ other. bucket_of marks at other ≡ bucket → ⊥) row (b.none bucket (sym (there bucket n) ∙ z)) (λ f. n (sym f))
+              rw (get_or-set_other last own bucket (Some first) None n) (still bucket n (get_or last bucket None) (b.each bucket k))

@@ -1,14 +1,13 @@
 -- The first row with a mark. Assumes nothing.
-use Prim.Native.Nat.{ℕ, zero, suc, ◌+◌, ◌≤◌, ◌<◌}
-use mathlib.Core.Path.{◌≡◌, refl, sym, ap, ◌∙◌}
+use Prim.Native.Nat.{ℕ, zero, suc, ◌≤◌, ◌<◌}
+use mathlib.Core.Path.{◌≡◌, refl, sym, ap}
 use mathlib.Core.Bool.{Bool, true, false, cond}
 use mathlib.Core.List.{List, [], ◌∷◌}
 use native.Mathlib.Nat.{add_comm}
 use native.Mathlib.Numerals.{add-one}
 use native.Mathlib.Omega.{arith}
 use lib.Dec.{eqb}
-use lib.ListN.{length, get_or, drop, length-drop}
-use lib.Seq.{get_or-drop}
+use lib.ListN.{length, get_or}
 use borrow.Author.Tests.{lt-ltb, eqb-true, eq-eqb, ne_eqb}
 use Rattle.std.specs.List.{position, position_or_len}
 use Rattle.std.specs.Prelude.{unwrap_or}
@@ -39,27 +38,26 @@ module _ (mark : ℕ) where
       = sym (is_position_or_len (first_same mark) (λ other. eqb other mark) refl (λ first rest. rw (add_comm 1 (first_same mark rest), add-one (first_same mark rest))) marks) in
       rw (place, lt-ltb (first_same mark marks) (length marks) (omega (arith, (same-upto marks i h e).0)))
 
--- the rows whose marks stand from a place on, up to one
-module _ (marks : List ℕ) (at row : ℕ) (h : at + row < length marks) where
+-- the rows up to one
+module _ (marks : List ℕ) (row : ℕ) (h : row < length marks) where
   abbrev mark : ℕ → ℕ
-  mark other = get_or marks (at + other) 0
+  mark other = get_or marks other 0
 
-  upto : (first_of marks at row ≤ row) × (get_or (drop at marks) (first_of marks at row) 0 ≡ mark row)
-  upto = same-upto (mark row) (drop at marks) row (simp length-drop (omega arith)) (get_or-drop at marks row 0)
+  upto : (first_of marks row ≤ row) × (mark (first_of marks row) ≡ mark row)
+  upto = same-upto (mark row) marks row h refl
 
-  pub first-upto : first_of marks at row ≤ row
+  pub first-upto : first_of marks row ≤ row
   first-upto = upto.0
 
-  pub first-mark : mark (first_of marks at row) ≡ mark row
-  first-mark = sym (get_or-drop at marks (first_of marks at row) 0) ∙ upto.1
+  pub first-mark : mark (first_of marks row) ≡ mark row
+  first-mark = upto.1
 
-  pub first_placed : unwrap_or (position (λ other. eqb other (mark row)) (drop at marks)) row ≡ first_of marks at row
-  first_placed = searched (mark row) (drop at marks) row row (simp length-drop (omega arith)) (get_or-drop at marks row 0)
+  pub first_placed : unwrap_or (position (λ other. eqb other (mark row)) marks) row ≡ first_of marks row
+  first_placed = searched (mark row) marks row row h refl
 
   -- the first row with a mark is the first with its own
-  pub first-own : first_of marks at (first_of marks at row) ≡ first_of marks at row
-  first-own = ap (λ (m : ℕ). first_same m (drop at marks)) first-mark
+  pub first-own : first_of marks (first_of marks row) ≡ first_of marks row
+  first-own = ap (λ (m : ℕ). first_same m marks) first-mark
 
-  pub first-here : (other : ℕ) → other ≤ row → mark other ≡ mark row → ((j : ℕ) → j < other → mark j ≡ mark row → ⊥) → first_of marks at row ≡ other
-  first-here other k e none =
-      same-at (mark row) (drop at marks) other (simp length-drop (omega arith)) (get_or-drop at marks other 0 ∙ e) (λ j l f. none j l (sym (get_or-drop at marks j 0) ∙ f))
+  pub first-here : (other : ℕ) → other ≤ row → mark other ≡ mark row → ((j : ℕ) → j < other → mark j ≡ mark row → ⊥) → first_of marks row ≡ other
+  first-here other k e none = same-at (mark row) marks other (omega arith) e none

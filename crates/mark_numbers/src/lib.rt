@@ -19,21 +19,21 @@ pub fn find(marks: &[u64], at: usize, rows: usize) -> [usize; 256]
     if !cells::within(at, rows, marks.len()) {
         return [0; 256];
     }
-    numbers(marks, at, rows)
+    numbers(&marks[at..at + rows])
 }
 
-// For each hash value, `last` has the first row with the mark that was met last, counted from 1; zero where none was met.
-fn numbers(marks: &[u64], at: usize, rows: usize) -> [usize; 256]
-    requires { (rows ≤ 256) × (at + rows ≤ length marks.now) }
-    ensures { result ≡ spec.numbers_of marks.now at rows }
+// For each hash value, `last` has the first row with the mark that was met last.
+fn numbers(marks: &[u64]) -> [usize; 256]
+    requires { length marks.now ≤ 256 }
+    ensures { result ≡ spec.numbers_of marks.now }
 {
     let mut found = [0; 256];
-    let mut last = [0u16; BUCKETS];
-    for row in 0..rows {
-        let bucket = marks[at + row] as usize % BUCKETS;
-        let first = first_row(marks, at, row, last[bucket] as usize);
+    let mut last: [Option<u8>; BUCKETS] = [None; BUCKETS];
+    for row in 0..marks.len() {
+        let bucket = marks[row] as usize % BUCKETS;
+        let first = first_row(marks, row, last[bucket]);
         found[row] = first;
-        last[bucket] = (first + 1) as u16;
+        last[bucket] = Some(first as u8);
     }
     found
 }
@@ -45,19 +45,19 @@ fn place_of(marks: &[u64], mark: u64) -> Option<usize>
     marks.iter().position(|other| *other == mark)
 }
 
-// The first row with the mark of a row, by a guess counted from 1: the row itself where the guess is zero. Where the guess has another mark, the
-// rows are looked at from the first on, and the row itself has it.
-fn first_row(marks: &[u64], at: usize, row: usize, guess: usize) -> usize
-    requires { (at + row < length marks.now) × spec.Guess marks.now at row guess }
-    ensures { result ≡ spec.first_of marks.now at row }
+// The first row with the mark of a row: the row itself where there is no guess. Where the guess has another mark, the rows are looked at from
+// the first on, and the row itself has it.
+fn first_row(marks: &[u64], row: usize, guess: Option<u8>) -> usize
+    requires { (row < length marks.now) × spec.Guess marks.now row guess }
+    ensures { result ≡ spec.first_of marks.now row }
 {
-    if guess == 0 {
+    let Some(before) = guess else {
         return row;
-    }
-    let mark = marks[at + row];
-    let before = guess - 1;
-    if marks[at + before] == mark {
+    };
+    let mark = marks[row];
+    let before = before as usize;
+    if marks[before] == mark {
         return before;
     }
-    place_of(&marks[at..], mark).unwrap_or(row)
+    place_of(marks, mark).unwrap_or(row)
 }

@@ -11,6 +11,7 @@ use lib.Seq.{drop-drop, length-take-le, take_at, drop_at, set_at, drop-cons}
 use borrow.Rule.Slice.PartMut.{put_mid}
 use Rattle.std.proofs.lemmas.Grind.{common_steps}
 use Rattle.cells.specs.promises.Cells.{within}
+use Rattle.little_endian.proofs.Numbers.{number-one, joined}
 use Rattle.mark_reader.specs.promises.Marks.{first_marks, marks_after}
 use Rattle.plan.specs.Sheets.{mark_of, marks_from}
 use Rattle.plan.specs.Table.{Cell, blank}
@@ -89,6 +90,10 @@ module _ (part : List ℕ) where
       let long : length (take (at + rows - at) (drop at old)) ≡ row_count part = rw k (length-take-le rows (drop at old) (omega (arith, length-drop at old)) ∙ r) in
       let is : new ≡ first_marks part table (row_count part) = e ∙ ap (first_marks part table) long in
       rw (k, is, r, drop-drop (row_count part) at old)
+
+-- a row count is a number of two bytes
+pub few_rows : (part : List ℕ) → ((i : ℕ) → get_or part i 0 < 256) → row_count part < 65536
+few_rows part bounds = omega (arith, bounds 2, bounds 3, joined part 2 1 1 (number-one part 2 refl) (number-one part 3 refl))
 
 -- a range of elements lies within a slice
 pub within_room : (from count n : ℕ) → within from count n ≡ leb (from + count) n

@@ -7,8 +7,8 @@ ghost use Rattle.plan.specs.Sheets.{mark_of};
 ghost use Rattle.table_part.specs.TablePart.{columns_of, sheets_of, cells_from};
 
 use cells::within;
-use little_endian::{byte, eight, two};
-use table_part::cell_count;
+use little_endian::{byte, eight};
+use table_part::{Shape, cell_count, shape_of};
 use value::pattern::{magnitude, signed};
 
 // Past every value.
@@ -16,15 +16,13 @@ const OWN: u64 = 0x8000_0000_0000;
 
 // Writes the marks of the rows of the table with this number from a place on, and answers true. Where byte 1 names no column, the number has more
 // than 16 bits, or the part or the slice is too short, it writes nothing.
-#[tactic(auto, using(crate::proofs::Marks::within_room), unfolding(crate::specs::promises::Marks::readable))]
+#[tactic(auto, using(crate::proofs::Marks::within_room), unfolding(crate::specs::promises::Marks::readable, table_part::specs::promises::Shape::shape_of))]
 pub fn read_marks(part: &[u8], table: usize, marks: &mut [u64], at: usize) -> bool
     ensures value { result ≡ spec.readable part.now table (length marks.old) at }
     ensures marks_after { marks.new ≡ cond result (spec.marks_after part.now table marks.old at) marks.old }
 {
-    let columns = byte(part, 0);
-    let sheets = byte(part, 1);
-    let rows = two(part, 2) as usize;
-    let fits = (sheets <= columns)
+    let Shape { columns, rows } = shape_of(part);
+    let fits = (byte(part, 1) as usize <= columns)
         & (table < 65536)
         & (4 + 12 * cell_count(part) as usize <= part.len())
         & within(at, rows, marks.len());

@@ -1,18 +1,23 @@
 -- The rows of a table whose labels are tested one after the other: what is left of the first refusal when so many rows are passed, as APPLY, GROUP
 -- and NOISE ask. Assumes nothing.
-use Prim.Native.Nat.{ℕ, ◌+◌, ◌-◌, ◌≤◌, ◌<◌}
-use mathlib.Core.Path.{◌≡◌, ◌∙◌}
+use Prim.Native.Nat.{ℕ, ◌+◌, ◌-◌, ◌*◌, ◌≤◌, ◌<◌}
+use mathlib.Core.Path.{◌≡◌, sym, ap, ◌∙◌}
 use mathlib.Core.Bool.{true}
 use mathlib.Core.List.{List}
 use native.Mathlib.Omega.{arith}
 use lib.ListN.{length, get_or, take, drop}
 use Rattle.cells.specs.promises.Cells.{grid_of}
 use Rattle.cells.specs.promises.Labelled.{column_formed, column_formed_at}
+use Rattle.cells.specs.promises.Search.{says}
 use Rattle.label_words.specs.WellFormed.{well_formed}
 use Rattle.live_tables.specs.declared.LiveTable.{LiveTable}
+use Rattle.memory.specs.declared.StepError.{StepError}
 use Rattle.memory.specs.promises.Stack.{labels_in}
+use Rattle.memory.specs.promises.Steps.{error_says, step_says}
 use Rattle.plan.specs.Verdict.{Verdict, fine, or_else, first_row}
+use Rattle.std.specs.Prelude.{Result, Ok, Err}
 use Rattle.cells.proofs.Columns.{Walking, walk_begins, inside, walk-on, read_next, tested-next}
+use Rattle.memory.proofs.Finish.{error-stands, goes_on}
 use Rattle.memory.proofs.FormedTables.{formed-table, formed-row}
 
 -- the labels of a row of a table, whose first stands at a place
@@ -71,3 +76,15 @@ module _ {test : ℕ → List ℕ → Verdict} {labels : List ℕ} {table : Live
   -- all rows are passed
   pub rows_end : table.rows ≤ row → first_row test 0 (labels_in labels table) ≡ fine
   rows_end h = let z : table.rows - row ≡ 0 = omega arith in r.left ∙ rw z
+
+-- a test of the row in code answers its refusal
+module _ {test : ℕ → List ℕ → Verdict} {labels : List ℕ} {table : LiveTable} {column row : ℕ} {A : Type 0} (r : RowsPassed test labels table column row (table.at + row * table.columns))
+    (h : row < table.rows) {answer : Result A StepError} (e : step_says answer ≡ says (test row (row_at labels table (table.at + row * table.columns)))) where
+  -- an error is the first refusal
+  pub row-refuses : {wrong : StepError} → answer ≡ Err wrong → error_says wrong ≡ says (first_row test 0 (labels_in labels table))
+  row-refuses {wrong} was = error-stands wrong _ (sym (ap step_says was) ∙ e) ∙ ap says (sym (row-left r h))
+
+  pub row-passes : {made : A} → answer ≡ Ok made → RowsPassed test labels table column (row + 1) (table.at + (row + 1) * table.columns)
+  row-passes was =
+      let next : table.at + (row + 1) * table.columns ≡ table.at + row * table.columns + table.columns = omega arith in
+      rw next (row-passed r h (goes_on _ (sym (ap step_says was) ∙ e)))

@@ -61,29 +61,19 @@ impl Refusal {
         }
     }
 
-    // The row that it tells, of so many rows for 34.
-    pub fn row(self) -> usize
-        ensures { result ≡ refusal_tells (λ number row column. row) self }
+    // The row and the column that it tells: 256 and 0 for 34.
+    pub fn at(self) -> At
+        ensures { result ≡ refusal_tells (λ number row column. record { row = row; column = column }) self }
     {
         match self {
             Refusal::NotClear(at)
             | Refusal::Forbidden(at)
             | Refusal::OperandNotClear(at)
-            | Refusal::NoDraw(at) => at.row,
-            Refusal::TooMany => 256,
-        }
-    }
-
-    // The column that it tells.
-    pub fn column(self) -> usize
-        ensures { result ≡ refusal_tells (λ number row column. column) self }
-    {
-        match self {
-            Refusal::NotClear(at)
-            | Refusal::Forbidden(at)
-            | Refusal::OperandNotClear(at)
-            | Refusal::NoDraw(at) => at.column,
-            Refusal::TooMany => 0,
+            | Refusal::NoDraw(at) => at,
+            Refusal::TooMany => At {
+                row: 256,
+                column: 0,
+            },
         }
     }
 }

@@ -3,26 +3,22 @@
 
 ghost use Rattle.std.specs.Prelude.{◌≡◌, cond, length};
 ghost use Rattle.cells.specs.promises.Cells as spec;
+ghost use Rattle.cells.specs.promises.Lent.{SameCells};
 
-use cells::within;
+use cells::{LentCells, within};
 
 // Copies `count` cells to a place not after theirs, or wholly past them, and answers true. For any other place, or where the cells or the
 // place are not within both slices, it changes nothing and answers false.
-pub fn move_cells(
-    values: &mut [i64],
-    labels: &mut [u32],
-    from: usize,
-    to: usize,
-    count: usize,
-) -> bool
-    ensures value { result ≡ spec.moves_within values.old labels.old from to count }
-    ensures values_after { values.new ≡ cond result (spec.moved from to count values.old) values.old }
-    ensures labels_after { labels.new ≡ cond result (spec.moved from to count labels.old) labels.old }
+pub fn move_cells(cells: &mut LentCells, from: usize, to: usize, count: usize) -> bool
+    ensures value { result ≡ spec.moves_within cells.old.values.now cells.old.labels.now from to count }
+    ensures values_after { cells.new.values.now ≡ cond result (spec.moved from to count cells.old.values.now) cells.old.values.now }
+    ensures labels_after { cells.new.labels.now ≡ cond result (spec.moved from to count cells.old.labels.now) cells.old.labels.now }
+    ensures same { SameCells cells.old cells.new }
 {
-    if !can_move(from, to, count, labels.len()) || !move_items(values, from, to, count) {
+    if !can_move(from, to, count, cells.labels.len()) {
         return false;
     }
-    move_items(labels, from, to, count)
+    move_items(cells.values, from, to, count) && move_items(cells.labels, from, to, count)
 }
 
 // The same of marks.
@@ -41,13 +37,11 @@ fn move_items<T: Copy>(items: &mut [T], from: usize, to: usize, count: usize) ->
     if !can_move(from, to, count, items.len()) {
         return false;
     }
-    for i in 0..count {
-        items[to + i] = items[from + i];
-    }
+    items.copy_within(from..from + count, to);
     true
 }
 
-// Whether `count` elements of a slice of that length can be copied so, first to last.
+// Whether `count` elements of a slice of that length can be copied so.
 fn can_move(from: usize, to: usize, count: usize, length: usize) -> bool
     ensures { result ≡ spec.can_move from to count length }
 {

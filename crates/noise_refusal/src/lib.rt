@@ -3,13 +3,11 @@
 #![tactic(auto)]
 
 ghost use Rattle.std.specs.Prelude.{◌≡◌, true};
-ghost use Rattle.cells.specs.promises.Labelled.{column_formed_at};
 ghost use Rattle.cells.specs.promises.Search.{says};
 ghost use Rattle.label_discharge.specs.Discharge.{forbids_n};
 ghost use Rattle.label_words.specs.WellFormed.{well_formed};
-ghost use Rattle.memory.specs.promises.Stack.{labels_in};
 ghost use Rattle.memory.specs.promises.Steps.{step_says};
-ghost use Rattle.plan.specs.Noise.{noise_refusal, check_noise};
+ghost use Rattle.plan.specs.Noise.{noise_refusal};
 ghost use Rattle.noise_refusal.specs.promises.Refusals.{noise_says};
 
 use cells::At;
@@ -17,7 +15,7 @@ use label::LabelRefusal;
 use memory::{LiveTable, Refusal, StepError};
 
 // The first refusal, row by row, with so many draws left. A table that is not within the labels or does not have the column, and labels in the
-// column that are not well-formed, do not fit.
+// column that are not well-formed, do not fit. APPLY has a loop of its own: with the test of a row as a parameter it would be no shorter.
 pub fn refusal(
     labels: &[u32],
     table: LiveTable,
@@ -26,22 +24,9 @@ pub fn refusal(
 ) -> Result<(), StepError>
     ensures { step_says result ≡ noise_says labels.now table column left }
 {
-    if !search::column_formed(labels, table.at, table.rows, table.columns, column) {
+    if !search::column_formed(labels, table.area(), column) {
         return Err(StepError::DoesNotFit);
     }
-    rows_refusal(labels, table, column, left)
-}
-
-// The same of labels that are well-formed. APPLY has a loop of its own: with the row as a parameter it would be no shorter.
-fn rows_refusal(
-    labels: &[u32],
-    table: LiveTable,
-    column: usize,
-    left: usize,
-) -> Result<(), StepError>
-    requires { column_formed_at labels.now table.at table.rows table.columns column ≡ true }
-    ensures { step_says result ≡ says (check_noise column left (labels_in labels.now table)) }
-{
     for row in 0..table.rows {
         let word = labels[table.at + row * table.columns + column];
         row_refusal(word, row, column, left)?;

@@ -6,7 +6,8 @@ use value::pattern::signed;
 // More draws than a trial has.
 const MOST: usize = 2048;
 
-// The numbers of a text's lines, at most so many; what stands behind the last end of a line is none.
+// The numbers of a text's lines, at most so many; what stands behind the last end of a line is none. They are read by hand: bytes that are no
+// digits add nothing, and numbers of 64 bits wrap, which no function of the library does.
 pub fn read(alloc: Global, text: &[u8]) -> Result<Vec<i64>, AllocError> {
     let mut numbers = Vec::new(alloc);
     let mut bits = 0;
@@ -35,6 +36,7 @@ fn with_digit(bits: u64, byte: u8) -> u64 {
     }
 }
 
+// The sign comes before the digits, so it is held until the line ends.
 fn number(bits: u64, negative: bool) -> i64 {
     signed(if negative {
         wrapping_sub_u64(0, bits)

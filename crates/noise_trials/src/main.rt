@@ -4,13 +4,14 @@
 
 mod draws;
 
-use arguments::{MOST, file_bytes};
+use arguments::{MOST, file_bytes, name_at};
 use std::fs::Files;
 use std::{env, io};
 
 // The most bytes that are read of the draws' text.
 const LONGEST: usize = 65536;
 
+// By twos: a container and its draws.
 fn main(rt: HostRuntime) -> io::Result<()> {
     let names: Vec<String> = env::args(&rt)?.skip(1).collect(rt.alloc())?;
     for pair in names.chunks(2) {
@@ -21,15 +22,11 @@ fn main(rt: HostRuntime) -> io::Result<()> {
 
 // A name that is missing is that of a file that can't be opened.
 fn trial<R: Files + Print + Eprint + AllocGlobal>(rt: &R, names: &[String]) -> io::Result<()> {
-    let container = file_bytes(rt, name(names, 0), true, MOST)?;
-    let text = file_bytes(rt, name(names, 1), false, LONGEST)?;
+    let container = file_bytes(rt, name_at(names, 0), true, MOST)?;
+    let text = file_bytes(rt, name_at(names, 1), false, LONGEST)?;
     if let (Some(container), Some(text)) = (container, text) {
         println!(rt)?;
         report::report(rt, &container, &draws::read(rt.alloc(), &text)?)?;
     }
     Ok(())
-}
-
-fn name(names: &[String], index: usize) -> &str {
-    names.get(index).map_or("", |name| name.as_str())
 }

@@ -1,11 +1,11 @@
-// The numbers of the operations of APPLY and GROUP.
+// The numbers of the operations of APPLY and GROUP, as document 01 gives them: the definitions of `plan` have them, case by case.
 ghost use Rattle.std.specs.Prelude.{◌≡◌};
 ghost use Rattle.plan.specs.Numbers as spec;
 ghost use Rattle.operations.specs.promises.Operations.{operation_fits};
 
 use plan::{Aggregate, Transform};
 
-// The number of APPLY's operation.
+// The number of APPLY's operation: a match, since a case with a field has no number to cast to.
 pub fn transform_code(transform: Transform) -> u32
     ensures { result ≡ spec.transform_code transform }
 {
@@ -27,17 +27,11 @@ pub fn digits_of(transform: Transform) -> u32
     }
 }
 
-// The number of GROUP's aggregate.
+// The number of GROUP's aggregate. The contract holds the order of the enum to document 01's numbers.
 pub fn aggregate_code(aggregate: Aggregate) -> u32
     ensures { result ≡ spec.aggregate_code aggregate }
 {
-    match aggregate {
-        Aggregate::Count => 0,
-        Aggregate::Sum => 1,
-        Aggregate::Min => 2,
-        Aggregate::Max => 3,
-        Aggregate::Avg => 4,
-    }
+    aggregate as u32
 }
 
 // Whether APPLY's operation exists: a cut takes off 1 to 6 digits.

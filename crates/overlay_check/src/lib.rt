@@ -7,8 +7,8 @@ ghost use Rattle.overlay_check.specs.OverlayCheck as spec;
 
 use directory::check_directory;
 use input::InputRefusal;
-use layout::{part, part_offset};
-use little_endian::{byte, two};
+use layout::{part, part_count, part_offset};
+use little_endian::two;
 use overlay_part::{check_labels, part_fits};
 
 // 21, then 22. An empty slice is no overlay.
@@ -32,7 +32,7 @@ fn check_count(container: &[u8], overlay: &[u8]) -> Result<(), InputRefusal>
 {
     let len = overlay.len();
     let count = two(overlay, 0) as usize;
-    let parts = byte(container, 0) as usize;
+    let parts = part_count(container);
     if (65_536 < len) | (len < 2) | !(count + 1 == parts) | (len < 2 + 8 * count) {
         Err(InputRefusal::Overlay(0))
     } else {

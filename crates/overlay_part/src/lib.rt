@@ -21,7 +21,8 @@ pub fn part_fits(table: &[u8], part: &[u8]) -> bool
         & (part.len() == 4 + 4 * cell_count(table) as usize)
 }
 
-// 22: the first label of a part that is ill-formed, or not zero in the column of sheet numbers. The part begins at `at`.
+// 22: the first label of a part that is ill-formed, or not zero in the column of sheet numbers. The part begins at `at`. The header is read by its
+// bytes, whose types bound the numbers; those of `table_part::shape_of` have no bound.
 #[tactic(auto, using(crate::proofs::RowsLeft::after_row))]
 pub fn check_labels(part: &[u8], at: u32) -> Result<(), InputRefusal>
     ensures { input_says result ≡ spec.check_labels part.now at }

@@ -1,44 +1,36 @@
 // The labels of an overlay, composed onto those of a table in work memory.
 #![tactic(auto)]
 
-ghost use Rattle.std.specs.Prelude.{◌≡◌, ◌+◌, ◌≤◌, length};
+ghost use Rattle.std.specs.Prelude.{◌≡◌, ◌≤◌, length};
 ghost use Rattle.overlay_reader.specs.promises.Composing as spec;
 
-use cells::table_within;
+use cells::Area;
 use layout::part;
 use little_endian::four;
 
-// Composes the labels that an overlay has for the container's table with this number onto those of the table of so many rows and columns that stands at a
-// place. Where the overlay is empty, or there is no such table within the labels, nothing changes.
-// Place, rows and columns are three numbers, as `cells::table_within` and `floors::floor_labels` take them: no struct below the live tables has them.
+// Composes the labels that an overlay has for the container's table with this number onto those of a table in work memory.
+// Where the overlay is empty, or there is no such table within the labels, nothing changes.
 #[tactic(auto, unfolding(crate::specs::promises::Composing::after_overlay))]
-pub fn compose_labels(
-    overlay: &[u8],
-    table: usize,
-    labels: &mut [u32],
-    at: usize,
-    rows: usize,
-    columns: usize,
-)
-    ensures { labels.new ≡ spec.after_overlay overlay.now table at rows columns labels.old }
+pub fn compose_labels(overlay: &[u8], table: usize, labels: &mut [u32], area: Area)
+    ensures { labels.new ≡ spec.after_overlay overlay.now table area.at area.rows area.columns labels.old }
 {
     if overlay.is_empty() {
         return;
     }
-    if !table_within(at, rows, columns, labels.len()) {
+    if !area.within(labels.len()) {
         return;
     }
-    compose_part(part(overlay, table), labels, at, rows * columns);
+    let Area { at, rows, columns } = area;
+    compose_part(part(overlay, table), &mut labels[at..at + rows * columns]);
 }
 
-// Composes the first labels of a part onto so many from a place on.
+// Composes the first labels of a part onto these.
 #[tactic(auto, using(crate::proofs::Composing::label_composed))]
-fn compose_part(part: &[u8], labels: &mut [u32], at: usize, count: usize)
-    requires { (at + count ≤ length labels.old) × (count ≤ 2048) }
-    ensures { labels.new ≡ spec.composed_at part.now at count labels.old }
+fn compose_part(part: &[u8], labels: &mut [u32])
+    requires { length labels.old ≤ 2048 }
+    ensures { labels.new ≡ spec.composed_labels part.now 0 labels.old }
 {
-    let table = &mut labels[at..at + count];
-    for (cell, label) in table.iter_mut().enumerate() {
+    for (cell, label) in labels.iter_mut().enumerate() {
         *label = composed(*label, four(part, 4 + 4 * cell));
     }
 }

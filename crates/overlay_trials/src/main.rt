@@ -2,10 +2,11 @@
 // line, and then what the monitor prints of it, lent no draws.
 #![tactic(auto)]
 
-use arguments::{MOST, file_bytes};
+use arguments::{MOST, file_bytes, name_at};
 use std::fs::Files;
 use std::{env, io};
 
+// By fives: a container and its four overlays.
 fn main(rt: HostRuntime) -> io::Result<()> {
     let names: Vec<String> = env::args(&rt)?.skip(1).collect(rt.alloc())?;
     for group in names.chunks(5) {
@@ -44,6 +45,5 @@ fn bytes<R: Files + Print + Eprint + AllocGlobal>(
     names: &[String],
     index: usize,
 ) -> io::Result<Option<Vec<u8>>> {
-    let name = names.get(index).map_or("", |name| name.as_str());
-    file_bytes(rt, name, index == 0, MOST)
+    file_bytes(rt, name_at(names, index), index == 0, MOST)
 }

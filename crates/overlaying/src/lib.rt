@@ -9,8 +9,8 @@ use live_tables::{Stack, live_table};
 use overlay_reader::compose_labels;
 use plan::Step;
 
-// Composes the overlays onto the labels of the table on top of the stack, where the step that has made it is a SCAN, and then reads these labels under the
-// rule year. An empty slice is no overlay.
+// Composes the overlays onto the labels of the table on top of the stack, where the step that has made it is a SCAN, and then reads
+// these labels under the rule year. An empty slice is no overlay.
 pub fn overlay_step(overlays: &[&[u8]; 4], labels: &mut [u32], stack: Stack, step: Step, year: u8)
     ensures { labels.new ≡ after_step year (map (λ overlay. overlay.now) overlays.now) step stack labels.old }
 {
@@ -19,7 +19,7 @@ pub fn overlay_step(overlays: &[&[u8]; 4], labels: &mut [u32], stack: Stack, ste
     };
     let live = live_table(stack, 0);
     for overlay in overlays {
-        compose_labels(overlay, table, labels, live.at, live.rows, live.columns);
+        compose_labels(overlay, table, labels, live.area());
     }
-    floor_labels(labels, live.at, live.rows, live.columns, year);
+    floor_labels(labels, live.area(), year);
 }

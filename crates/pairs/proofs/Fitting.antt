@@ -10,7 +10,7 @@ use Rattle.cells.specs.promises.Search.{table_within}
 use Rattle.cells.specs.promises.Work.{room, mark_room}
 use Rattle.memory.specs.promises.Stack.{last_slot, last_marks}
 use Rattle.pairs.specs.declared.Side.{Side}
-use Rattle.pairs.specs.promises.Pairs.{Sides, side_fits, sides_fit, MarksBelow, marks_fit}
+use Rattle.pairs.specs.promises.Pairs.{SidesFit, side_fits, sides_fit, MarksBelow, marks_fit}
 use Rattle.cells.proofs.CellLaws.{within-le, le-within}
 use Rattle.cells.proofs.Searching.{within-table}
 
@@ -25,7 +25,7 @@ parts-side : (side : Side) → side.table.rows ≤ 256 → side.table.columns �
 unfolding side_fits
 parts-side side r c b k = rw (le-leb side.table.rows 256 r, le-leb side.table.columns 8 c, le-within side.table.at (side.table.rows * side.table.columns) last_slot b, lt-ltb side.key side.table.columns k)
 
-pub to-sides : (values labels : ℕ) (left right : Side) → sides_fit values labels left right ≡ true → Sides values labels left right
+pub to-sides : (values labels : ℕ) (left right : Side) → sides_fit values labels left right ≡ true → SidesFit values labels left right
 unfolding sides_fit
 to-sides values labels left right e =
     let a = (and-eq-true_iff (side_fits left && side_fits right) (leb (left.table.columns + right.table.columns) 9 && leb room values && leb room labels)).0 e in
@@ -46,7 +46,7 @@ to-sides values labels left right e =
       few = omega (arith, leb-true (left.table.columns + right.table.columns) 9 c.0, r.3);
     }
 
-pub sides-fit : (values labels : ℕ) (left right : Side) → Sides values labels left right → sides_fit values labels left right ≡ true
+pub sides-fit : (values labels : ℕ) (left right : Side) → SidesFit values labels left right → sides_fit values labels left right ≡ true
 unfolding sides_fit
 sides-fit values labels left right s = rw (
   parts-side left s.left-rows (omega (arith, s.few)) s.left_below s.left_key,

@@ -1,15 +1,19 @@
 -- Rows made after others in the last slot. Assumes nothing.
 use Prim.Native.Nat.{ℕ, ◌+◌, ◌*◌, ◌≤◌, ◌<◌, ◌^◌}
 use mathlib.Core.Path.{◌≡◌, refl, sym, ap, ap₂, ◌∙◌}
-use mathlib.Core.Bool.{Bool, true, false, and-false}
+use mathlib.Core.Bool.{Bool, true, false, cond, and-false}
 use mathlib.Core.List.{List, [], ◌++◌, append-nil}
 use native.Mathlib.Nat.{add-zero}
 use native.Mathlib.Omega.{arith}
+use lib.Dec.{leb}
 use lib.IntN.{pos}
 use lib.ListN.{length, get_or, take, drop, length-append, length-drop, take-append-drop}
 use lib.Seq.{length-take-le, take-append-le, take-take, get_or-take, get_or-drop}
 use lib.Signed.{mag}
-use Rattle.pairs.specs.promises.Pairs.{Sides, Grown, width, side_row, side_rows, row_made, pair_rows, with_cells}
+use borrow.Author.Tests.{le-leb, lt-leb, leb-true, leb-false}
+use Rattle.std.specs.Prelude.{Result, Ok, Err, IsErrAnd}
+use Rattle.pairs.specs.promises.Pairs.{SidesFit, Grown, width, side_row, side_rows, row_made, pair_rows, with_cells, count_of}
+use Rattle.pairs.specs.declared.TooMany.{TooMany}
 use Rattle.pairs.specs.declared.Side.{Side}
 use Rattle.cells.specs.promises.Cells.{Wide}
 use Rattle.cells.specs.promises.Work.{Work, cells_in, room, Kept}
@@ -25,11 +29,41 @@ use Rattle.memory.proofs.Stacks.{fits-slot}
 use Rattle.cells.proofs.Written.{as_long, then-written}
 use Rattle.value.proofs.Machine.{back, back_is}
 
+-- ---- so many rows, or too many
+
+abbrev count_if : ℕ → Bool → Result ℕ TooMany
+count_if rows few = cond few (Ok rows) (Err (record {}))
+
+pub counted-few : (rows : ℕ) {count : ℕ} → Ok count ≡ count_of rows → (count ≡ rows) × (rows ≤ 256)
+counted-few rows {count} e = go (leb rows 256) refl e
+  where
+    go : (few : Bool) → leb rows 256 ≡ few → Ok count ≡ count_if rows few → (count ≡ rows) × (rows ≤ 256)
+    go true h e = (cc, leb-true rows 256 h)
+    go false h e = cc
+
+pub counted-many : (rows : ℕ) {wrong : TooMany} → Err wrong ≡ count_of rows → 256 < rows
+counted-many rows {wrong} e = go (leb rows 256) refl e
+  where
+    go : (few : Bool) → leb rows 256 ≡ few → Err wrong ≡ count_if rows few → 256 < rows
+    go true h e = cc
+    go false h e = leb-false rows 256 h
+
+few-counted : (rows : ℕ) {count : ℕ} → count ≡ rows → rows ≤ 256 → Ok count ≡ count_of rows
+few-counted rows e h = rw (le-leb rows 256 h) (ap Ok e)
+
+many-counted : (rows : ℕ) {wrong : TooMany} → 256 < rows → Err wrong ≡ count_of rows
+many-counted rows h = rw (lt-leb rows 256 h)
+
+-- what `?` passes on
+pub passed-on : (P : TooMany → Type 0) (done : Result ℕ TooMany) → IsErrAnd done P → done ≡ Err (record {})
+passed-on P (Ok rows) e = absurd e
+passed-on P (Err wrong) e = refl
+
 -- whether the keys of two rows in memory match
 abbrev pub keys_match : List Cell → Side → Side → ℕ → ℕ → Bool
 keys_match memory left right at other = matches left.key right.key (side_row memory left at) (side_row memory right other)
 
-module _ {left right : Side} (w : Work) (sides : Sides (length w.values) (length w.labels) left right) where
+module _ {left right : Side} (w : Work) (sides : SidesFit (length w.values) (length w.labels) left right) where
   abbrev memory : List Cell
   memory = cells_in w
 
@@ -42,6 +76,10 @@ module _ {left right : Side} (w : Work) (sides : Sides (length w.values) (length
 
   pub rows-in-wide : (side : Side) → side.table.at + side.table.rows * side.table.columns ≤ 6144 → Each (Wide side.table.columns) (side_rows memory side)
   rows-in-wide side h = rows-wide side.table.columns side.table.rows (drop side.table.at memory) (cells-in side h)
+
+  -- rows that are counted are few
+  pub few-made : {made count : ℕ} {new : List Row} {u : Work} → Grown made left right new w (Ok count) u → count ≤ 256
+  few-made {made} {new = new} g = let few = counted-few (made + length new) g.counted in omega (arith, few.0, few.1)
 
   -- ---- one row with one row
 
@@ -63,30 +101,30 @@ module _ {left right : Side} (w : Work) (sides : Sides (length w.values) (length
   unfolding equal
   keys-differ at other h k e = ap₂ equal (key-at left at sides.left_key h) (key-at right other sides.right_key k) ∙ rw (e, and-false)
 
-  pub none_made : {made : ℕ} → made ≤ 256 → Grown made left right [] w made w
+  pub none_made : {made : ℕ} → made ≤ 256 → Grown made left right [] w (Ok made) w
   none_made {made} h = record {
-    counted = omega arith;
+    counted = few-counted _ (omega arith) (omega arith);
     put = λ k. sym (rw add-zero (take-append-drop (6144 + made * width left right) memory));
     below = refl;
     kept = kept-none w;
   }
 
   module _ (at other : ℕ) {made : ℕ} where
-    pub unmatched : keys_match memory left right at other ≡ false → made ≤ 256 → Grown made left right (pair_rows memory left right at other) w made w
+    pub unmatched : keys_match memory left right at other ≡ false → made ≤ 256 → Grown made left right (pair_rows memory left right at other) w (Ok made) w
     unmatched e h = rw e (none_made h)
 
     -- a row after 256 is counted and not written
-    pub one-too-many : keys_match memory left right at other ≡ true → made ≡ 256 → Grown made left right (pair_rows memory left right at other) w 257 w
-    one-too-many e h = rw e record { counted = omega arith; put = λ k. absurd (omega arith); below = refl; kept = kept-none w }
+    pub one-too-many : keys_match memory left right at other ≡ true → made ≡ 256 → Grown made left right (pair_rows memory left right at other) w (Err (record {})) w
+    one-too-many e h = rw e record { counted = many-counted _ (omega arith); put = λ k. absurd (omega arith); below = refl; kept = kept-none w }
 
     pub one-made : {u : Work} → keys_match memory left right at other ≡ true → made < 256
         → cells_in u ≡ with_cells (6144 + made * width left right) (row_made memory left right at other).cells memory → Kept w u
-        → Grown made left right (pair_rows memory left right at other) w (made + 1) u
+        → Grown made left right (pair_rows memory left right at other) w (Ok (made + 1)) u
     one-made m h e k =
         let place = 6144 + made * width left right in
         let high : place ≤ length memory = omega (arith, cells-room, fits-slot made (width left right) (omega arith) sides.few) in
         rw m record {
-          counted = omega arith;
+          counted = few-counted _ (omega arith) (omega arith);
           put = λ n. e ∙ ap (λ (x : List Cell). with_cells place x memory) (sym (append-nil (row_made memory left right at other).cells));
           below = ap (take 6144) e ∙ take-append-le 6144 (take place memory) _ (rw (length-take-le place memory high) (omega arith)) ∙ take-take 6144 place memory (omega arith);
           kept = k;
@@ -94,17 +132,17 @@ module _ {left right : Side} (w : Work) (sides : Sides (length w.values) (length
 
   -- ---- rows after rows
 
-  pub then-made : {u x : Work} {made count total : ℕ} {new more : List Row} → Each (Wide (width left right)) new → Each (Wide (width left right)) more
-      → Grown made left right new w count u → count ≤ 256 → Grown count left right more u total x → Grown made left right (new ++ more) w total x
-  then-made {u} {x} {made} {count} {new = new} {more} new-wide more-wide g h f =
+  pub then-made : {u x : Work} {made count : ℕ} {total : Result ℕ TooMany} {new more : List Row} → Each (Wide (width left right)) new → Each (Wide (width left right)) more
+      → Grown made left right new w (Ok count) u → Grown count left right more u total x → Grown made left right (new ++ more) w total x
+  then-made {u} {x} {made} {count} {new = new} {more} new-wide more-wide g f =
       let n = width left right in
       let sum : length (new ++ more) ≡ length new + length more = length-append new more in
-      let now : count ≡ made + length new = omega (arith, g.counted) in
+      let now = (counted-few (made + length new) g.counted).0 in
       let new-long = flat-length n new new-wide in
       let more-long = flat-length n more more-wide in
       let place : 6144 + count * n ≡ 6144 + made * n + length (flat new) = omega (arith, ap (λ (k : ℕ). k * n) now) in
       record {
-        counted = f.counted ∙ omega arith;
+        counted = let e : count + length more ≡ made + length (new ++ more) = omega arith in f.counted ∙ ap count_of e;
         put = λ m.
             let slot = fits-slot (count + length more) n (omega arith) sides.few in
             let first : Written memory (6144 + made * n) (flat new) (cells_in u) = record { room = omega (arith, cells-room); is = g.put (omega arith) } in
@@ -116,6 +154,8 @@ module _ {left right : Side} (w : Work) (sides : Sides (length w.values) (length
       }
 
   -- once there are too many, there are whatever follows
-  pub over-made : {u : Work} {made count : ℕ} {new : List Row} (all : List Row) → length new ≤ length all → Grown made left right new w count u → 256 < count
-      → Grown made left right all w count u
-  over-made all h g m = record { counted = omega (arith, g.counted); put = λ k. absurd (omega (arith, g.counted)); below = g.below; kept = g.kept }
+  pub over-made : {u : Work} {made : ℕ} {wrong : TooMany} {new : List Row} (all : List Row) → length new ≤ length all → Grown made left right new w (Err wrong) u
+      → Grown made left right all w (Err wrong) u
+  over-made {made = made} {new = new} all h g =
+      let many = counted-many (made + length new) g.counted in
+      record { counted = many-counted _ (omega arith); put = λ k. absurd (omega arith); below = g.below; kept = g.kept }

@@ -6,4 +6,5 @@ pub mod Fitting
 pub mod Growing
 pub mod Joining
 mod Keys
+mod Same
 pub mod Marks

@@ -12,7 +12,9 @@ use Rattle.cells.specs.promises.Cells.{bare_rows}
 use Rattle.cells.specs.promises.Work.{Work, Memory, cells_in}
 use Rattle.cells.specs.promises.Written.{Written}
 use Rattle.memory.specs.promises.Stack.{last_marks, mark_part}
+use Rattle.std.specs.Prelude.{Ok, Err}
 use Rattle.pairs.specs.declared.Side.{Side}
+use Rattle.pairs.specs.declared.TooMany.{TooMany}
 use Rattle.pairs.specs.promises.Pairs.{MarksBelow, Joined, side_rows, all_rows, left_marked, marked_rows}
 use Rattle.plan.specs.Join.{matches, joined_row, joined_to, joined_rows}
 use Rattle.plan.specs.Table.{Cell, Row, rows_of, flat}
@@ -20,6 +22,7 @@ use Rattle.cells.proofs.CellLaws.{marks-written}
 use Rattle.cells.proofs.Rows.{bare, bare-rows, flat-bare, marked_more}
 use Rattle.cells.proofs.Written.{below-written, read_below, then-written}
 use Rattle.memory.proofs.Stacks.{marks-count}
+use Rattle.pairs.proofs.Growing.{counted-few, counted-many}
 use Rattle.pairs.proofs.Turns.{Lefts}
 
 -- ---- the rows as lists
@@ -130,32 +133,35 @@ module _ (m : Memory) (left right : Side) where
         = omega (arith, ap length all, length-append (marks_of i) (replicate count mark), length-replicate count mark) in
         rw sum all
 
-    module _ (i : ℕ) {count : ℕ} {u : Work} (few : i ≤ left.table.rows) (g : Lefts left right m.work i count u) (h : count ≤ 256) where
+    module _ (i : ℕ) {count : ℕ} {u : Work} (few : i ≤ left.table.rows) (g : Lefts left right m.work i (Ok count) u) where
       marks-counted : length (marks_of i) ≡ count
-      marks-counted = marks-long i few ∙ omega (arith, g.counted)
+      marks-counted = marks-long i few ∙ omega (arith, (counted-few _ g.counted).0)
+
+      few-counted : count ≤ 256
+      few-counted = omega (arith, (counted-few _ g.counted).0, (counted-few _ g.counted).1)
 
       -- their marks stand in the last slot
       module _ {marks : List ℕ} (w : Written m.marks last_marks (marks_of i) marks) where
-        pub over-joined : {total : ℕ} {x : Work} → Lefts left right m.work left.table.rows total x → 256 < total → Joined left right m total (record { work = x; marks = marks })
-        over-joined k o = record {
+        pub over-joined : {wrong : TooMany} {x : Work} → Lefts left right m.work left.table.rows (Err wrong) x → Joined left right m (Err wrong) (record { work = x; marks = marks })
+        over-joined k = record {
           grown = k;
-          marked = λ l. absurd (omega (arith, k.counted));
+          marked = λ l. absurd (omega (arith, counted-many _ k.counted));
           marks-below = below-written w;
-          marks-kept = marks-written w (omega (arith, marks-counted));
+          marks-kept = marks-written w (omega (arith, marks-counted, few-counted));
         }
 
-        pub all-joined : i ≡ left.table.rows → Joined left right m count (record { work = u; marks = marks })
+        pub all-joined : i ≡ left.table.rows → Joined left right m (Ok count) (record { work = u; marks = marks })
         all-joined e = record {
           grown = rw e at g;
           marked = λ _. rw e at w;
           marks-below = below-written w;
-          marks-kept = marks-written w (omega (arith, marks-counted));
+          marks-kept = marks-written w (omega (arith, marks-counted, few-counted));
         }
 
         -- and so they do with those of one left row more
-        pub marks-next : {total : ℕ} {x : Work} {after : List ℕ} → i < left.table.rows → Lefts left right m.work (i + 1) total x → total ≤ 256
+        pub marks-next : {total : ℕ} {x : Work} {after : List ℕ} → i < left.table.rows → Lefts left right m.work (i + 1) (Ok total) x
             → Written marks (last_marks + count) (replicate (total - count) (get_or marks (left.table.marks + i) 0)) after → Written m.marks last_marks (marks_of (i + 1)) after
-        marks-next {total} l k few-rows f =
-            let then : length (marks_of (i + 1)) ≡ total = marks-long (i + 1) (omega arith) ∙ omega (arith, k.counted) in
+        marks-next {total} l k f =
+            let then : length (marks_of (i + 1)) ≡ total = marks-long (i + 1) (omega arith) ∙ omega (arith, (counted-few _ k.counted).0) in
             let same = read_below w (left.table.marks + i) 0 (omega (arith, below.below)) in
             rw (marks-more i l, then, marks-counted) (then-written w (omega (arith, marks-counted)) (rw same at f))

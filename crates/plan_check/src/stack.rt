@@ -5,7 +5,7 @@ ghost use Rattle.plan_check.specs.promises.Stack.{made_on};
 use plan::Step;
 use std::marker::Model;
 
-// The widths of the tables on the stack, the last pushed first, in an array of three: no heap on the path of a run.
+// The widths of the tables on the stack, the last pushed first, in an array of three: no heap on the path of a run. Nothing compares two of them.
 #[derive(Drop)]
 pub struct Widths {
     depth: usize,

@@ -15,7 +15,7 @@ fn length_fits(plan: &[u8]) -> bool
     ensures { result ≡ length_fits plan.now }
 {
     let steps = step_count(plan);
-    (plan.len() % 16 == 0) & (1 <= steps) & (steps <= 64)
+    (plan.len() % 16 == 0) & (1..=64).contains(&steps)
 }
 
 // 17, 18 and 19: the first step that is wrong, by its record, the tables on the stack, or their columns. The plan begins at `at`.

@@ -1,9 +1,10 @@
-// The step of a plan's record, where the record is as it should be.
+// The step of a plan's record, where the record is as it should be. A record has numbers for kinds and choices: each match over one gives the plan's
+// own case, and None of any other number.
 ghost use Rattle.std.specs.Prelude.{◌≡◌, ◌&&◌, ◌^◌, ◌<◌, ◌≤◌, IfSome, ltb};
 ghost use Rattle.plan.specs.declared.Step.TheVariants.{Filter, Group};
 ghost use Rattle.records.specs.Record.{comparison_of, aggregate_of, operand_written, operand_of, amount_fits};
 ghost use Rattle.records.specs.Record.{fields_at, zeros, when, apply_by, step_of};
-ghost use Rattle.records.specs.promises.Fields.{Bytes, Copied, where_so};
+ghost use Rattle.records.specs.promises.Fields.{where_so};
 
 use super::Fields;
 use little_endian::{byte, eight, three};
@@ -13,22 +14,22 @@ use plan::{Aggregate, Comparison, Operand, Step, Transform};
 #[tactic(auto, unfolding(crate::specs::Record::fields_at))]
 fn fields_at(plan: &[u8], step: usize) -> Fields
     requires { step < 2 ^ 60 }
-    ensures { Copied plan.now step result }
+    ensures { result ≡ fields_at plan.now step }
 {
     let at = 16 * step;
     Fields {
-        kind: byte(plan, at) as usize,
-        a: byte(plan, at + 1) as usize,
-        b: byte(plan, at + 2) as usize,
-        c: byte(plan, at + 3) as usize,
-        d: byte(plan, at + 4) as usize,
-        spare: three(plan, at + 5) as usize,
+        kind: byte(plan, at),
+        a: byte(plan, at + 1),
+        b: byte(plan, at + 2),
+        c: byte(plan, at + 3),
+        d: byte(plan, at + 4),
+        spare: three(plan, at + 5),
         constant: eight(plan, at + 8),
     }
 }
 
 // FILTER's comparison by its number.
-fn comparison_of(b: usize) -> Option<Comparison>
+fn comparison_of(b: u8) -> Option<Comparison>
     ensures { result ≡ where_so (ltb b 6) (comparison_of b) }
 {
     match b {
@@ -43,7 +44,7 @@ fn comparison_of(b: usize) -> Option<Comparison>
 }
 
 // GROUP's aggregate by its number.
-fn aggregate_of(b: usize) -> Option<Aggregate>
+fn aggregate_of(b: u8) -> Option<Aggregate>
     ensures { result ≡ where_so (ltb b 5) (aggregate_of b) }
 {
     match b {
@@ -65,7 +66,7 @@ fn operand_of(f: Fields) -> Option<Operand>
     if f.c == 0 && f.d == 0 && value::range::in_range(constant) {
         Some(Operand::Constant(constant))
     } else if f.c == 1 && f.constant == 0 {
-        Some(Operand::Column(f.d))
+        Some(Operand::Column(f.d as usize))
     } else {
         None
     }
@@ -81,8 +82,8 @@ fn amount_of(most: u64, f: Fields) -> Option<u64>
     fits.then_some(f.constant)
 }
 
-// Whether fields that a step does not use are zero; `x` is the sum of the bytes among them.
-fn zeros(x: usize, constant: u64) -> bool
+// Whether fields that a step does not use are zero; `x` has the bits of the bytes among them.
+fn zeros(x: u8, constant: u64) -> bool
     ensures { result ≡ zeros x constant }
 {
     x == 0 && constant == 0
@@ -93,7 +94,7 @@ fn filter_of(f: Fields) -> Option<Step>
     ensures { result ≡ when (ltb f.b 6 && operand_written f) (Filter f.a (comparison_of f.b) (operand_of f)) }
 {
     Some(Step::Filter {
-        column: f.a,
+        column: f.a as usize,
         comparison: comparison_of(f.b)?,
         operand: operand_of(f)?,
     })
@@ -111,48 +112,50 @@ fn apply_of(f: Fields) -> Option<Step>
         _ => return None,
     };
     Some(Step::Apply {
-        column: f.a,
+        column: f.a as usize,
         transform,
     })
 }
 
 // GROUP.
 fn group_of(f: Fields) -> Option<Step>
-    requires { Bytes f }
     ensures { result ≡ when (ltb f.b 5 && zeros f.d f.constant) (Group f.a (aggregate_of f.b) f.c) }
 {
     let aggregate = aggregate_of(f.b)?;
     zeros(f.d, f.constant).then_some(Step::Group {
         keys: f.a as u32,
         aggregate,
-        column: f.c,
+        column: f.c as usize,
     })
 }
 
 // The step of a record.
-#[tactic(auto, unfolding(crate::specs::Record::step_of))]
+#[tactic(auto, using(crate::proofs::Tests::or_2, crate::proofs::Tests::or_3, crate::proofs::Tests::or_4), unfolding(crate::specs::Record::step_of))]
 fn step_of(f: Fields) -> Option<Step>
-    requires { Bytes f }
     ensures { result ≡ step_of f }
 {
     if f.spare != 0 {
         return None;
     }
     match f.kind {
-        1 => zeros(f.b + f.c + f.d, f.constant).then_some(Step::Scan { table: f.a }),
-        2 => zeros(f.a + f.b + f.c + f.d, f.constant).then_some(Step::Union),
-        3 => zeros(f.c + f.d, f.constant).then_some(Step::Join {
-            left: f.a,
-            right: f.b,
+        1 => zeros(f.b | f.c | f.d, f.constant).then_some(Step::Scan {
+            table: f.a as usize,
+        }),
+        2 => zeros(f.a | f.b | f.c | f.d, f.constant).then_some(Step::Union),
+        3 => zeros(f.c | f.d, f.constant).then_some(Step::Join {
+            left: f.a as usize,
+            right: f.b as usize,
         }),
         4 => filter_of(f),
         5 => {
-            let fits = f.a != 0 && zeros(f.b + f.c + f.d, f.constant);
+            let fits = f.a != 0 && zeros(f.b | f.c | f.d, f.constant);
             fits.then_some(Step::Keep { mask: f.a as u32 })
         }
         6 => apply_of(f),
         7 => group_of(f),
-        8 => zeros(f.b + f.c + f.d, f.constant).then_some(Step::Noise { column: f.a }),
+        8 => zeros(f.b | f.c | f.d, f.constant).then_some(Step::Noise {
+            column: f.a as usize,
+        }),
         _ => None,
     }
 }

@@ -26,7 +26,7 @@ pub fn report<R: Print + Eprint>(rt: &R, container: &[u8], draws: &[i64]) -> io:
     )
 }
 
-// The same with overlays, and no draws.
+// The same with overlays, and no draws. The four stand apart as callers in C lend them.
 pub fn report_overlaid<R: Print + Eprint>(
     rt: &R,
     container: &[u8],
@@ -70,7 +70,8 @@ fn lines<R: Print>(
     printed::print(rt, output, trace, answer, steps)
 }
 
-// Runs a container, and prints by a rule what the call leaves in the output, the trace, the text and the answer.
+// Runs a container, and prints by a rule what the call leaves in the output, the trace, the text and the answer. It calls `cilunovay_run` and
+// reads that function's numbers, so that the programs run what a caller in C runs. A public one would need a `requires`: that the rule may be called.
 fn run<F: FnOnce(&[i64], &[u32], &[u8], &[u64; 4]) -> io::Result<()>>(
     container: &[u8],
     draws: &[i64],

@@ -23,21 +23,13 @@ pub fn print<R: Print>(
 // The text of a release, on standard output; the line of a refusal, on standard error.
 pub fn export<R: Print + Eprint>(rt: &R, bytes: &[u8], answer: &[u64; 4]) -> io::Result<()> {
     if answer[0] == 0 {
-        beginning(rt, bytes, answer[3] as usize)
+        rt.write_all(bytes.get(..answer[3] as usize).unwrap_or(&[]))
     } else {
         eprintln!(rt; "{}", Refused(answer))
     }
 }
 
-// So many bytes of a text.
-fn beginning<R: Print>(rt: &R, bytes: &[u8], length: usize) -> io::Result<()> {
-    if let Some(text) = bytes.get(..length) {
-        rt.write_all(text)?;
-    }
-    Ok(())
-}
-
-// The line of a refusal: a place of the input is one number, any other three.
+// The line of a refusal: a place of the input is one number, any other three. Nothing compares two of these.
 #[derive(Drop)]
 struct Refused<'a>(&'a [u64; 4]);
 
@@ -54,10 +46,9 @@ impl fmt::Display for Refused<'_> {
 
 // The lines of the first steps.
 fn finished<R: Print>(rt: &R, trace: &[u32], steps: usize) -> io::Result<()> {
-    for (step, line) in trace.chunks_exact(4).take(steps).enumerate() {
-        if let [first, second, third, fourth] = line {
-            println!(rt; "S {step} {first} {second} {third} {fourth}")?;
-        }
+    let (lines, _) = trace.as_chunks::<4>();
+    for (step, [first, second, third, fourth]) in lines.iter().take(steps).enumerate() {
+        println!(rt; "S {step} {first} {second} {third} {fourth}")?;
     }
     Ok(())
 }

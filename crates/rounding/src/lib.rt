@@ -8,6 +8,8 @@ ghost use Rattle.rounding.specs.Rounding.{distance, rounded, average};
 use value::choice::{chosen, folded};
 use value::range::{OVER, settled};
 
+// Three functions ask that there are rows: `average`, which alone leads to them, has tested it.
+
 // A sum divided by the rows, rounded down: the quotient of the folded sum, turned back where the sum is below zero.
 fn floored(total: i64, rows: u32) -> i64
     requires { 0 < rows }

@@ -9,7 +9,8 @@ ghost use Rattle.value.specs.Pattern.{signed_of, negative};
 
 use little_endian::{byte, eight, four, two};
 
-// Whether byte 1 of a table part is zero, or names a column whose cells are clear and not negative.
+// Whether byte 1 of a table part is zero, or names a column whose cells are clear and not negative. The header is read by its bytes, whose types bound
+// the numbers; those of `table_part::shape_of` have no bound.
 pub fn sheets_fit(table: &[u8]) -> bool
     ensures { result ≡ spec.sheets_fit table.now }
 {
@@ -22,6 +23,7 @@ pub fn sheets_fit(table: &[u8]) -> bool
         return false;
     }
     let rows = two(table, 2) as usize;
+    // In place of `all`, at whose call a proof has to state what the closure asks: the bounds of its sum and product.
     for row in 0..rows {
         if !sheet_fits(table, sheets - 1 + row * columns) {
             return false;

@@ -1,7 +1,8 @@
 // A step of any kind.
-ghost use Rattle.cells.specs.promises.Work.{memory_of};
+ghost use Rattle.cells.specs.promises.Lent.{memory_held, SameCells};
 ghost use Rattle.step.specs.promises.Taking.{Taken};
 
+use cells::LentCells;
 use memory::{MARK_ROOM, Stack, StepError};
 use plan::Step;
 
@@ -10,35 +11,33 @@ use plan::Step;
 pub fn take_step(
     container: &[u8],
     draws: &[i64],
-    values: &mut [i64],
-    labels: &mut [u32],
+    cells: &mut LentCells,
     marks: &mut [u64],
     stack: Stack,
     step: Step,
 ) -> Result<Stack, StepError>
-    ensures { Taken container.now draws.now step
-        (memory_of values.old labels.old marks.old) stack result
-        (memory_of values.new labels.new marks.new) }
+    ensures done { Taken container.now draws.now step (memory_held cells.old marks.old) stack result (memory_held cells.new marks.new) }
+    ensures same { SameCells cells.old cells.new }
 {
     if marks.len() < MARK_ROOM {
         return Err(StepError::DoesNotFit);
     }
     match step {
-        Step::Scan { table } => scan::scan(container, values, labels, marks, stack, table),
-        Step::Union => union::union(values, labels, marks, stack),
-        Step::Join { left, right } => join::join(values, labels, marks, stack, left, right),
+        Step::Scan { table } => scan::scan(container, cells, marks, stack, table),
+        Step::Union => union::union(cells, marks, stack),
+        Step::Join { left, right } => join::join(cells, marks, stack, left, right),
         Step::Filter {
             column,
             comparison,
             operand,
-        } => filter::filter(values, labels, marks, stack, column, comparison, operand),
-        Step::Keep { mask } => keep::keep(values, labels, stack, mask),
-        Step::Apply { column, transform } => apply::apply(values, labels, stack, column, transform),
+        } => filter::filter(cells, marks, stack, column, comparison, operand),
+        Step::Keep { mask } => keep::keep(cells, stack, mask),
+        Step::Apply { column, transform } => apply::apply(cells, stack, column, transform),
         Step::Group {
             keys,
             aggregate,
             column,
-        } => group::group(values, labels, marks, stack, keys, aggregate, column),
-        Step::Noise { column } => noise::noise(draws, values, labels, stack, column),
+        } => group::group(cells, marks, stack, keys, aggregate, column),
+        Step::Noise { column } => noise::noise(draws, cells, stack, column),
     }
 }

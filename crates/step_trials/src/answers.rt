@@ -40,15 +40,8 @@ fn take<R: Print>(
 ) -> io::Result<()> {
     print!(rt; "{}", Given(work))?;
     let stack = work.stack;
-    match take_step(
-        container,
-        draws,
-        &mut work.values,
-        &mut work.labels,
-        &mut work.marks,
-        stack,
-        step,
-    ) {
+    let (mut cells, marks) = work.lent();
+    match take_step(container, draws, &mut cells, marks, stack, step) {
         Ok(made) => {
             work.stack = made;
             print!(rt; "{work}")
@@ -59,18 +52,18 @@ fn take<R: Print>(
 }
 
 fn stages_left<R: Print>(rt: &R, work: &Work) -> io::Result<()> {
-    let top = live_table(work.stack, 0);
-    let left = trace_lines::stages_left(&work.labels, top.at, top.rows, top.columns);
+    let table = live_table(work.stack, 0).area();
+    let left = trace_lines::stages_left(&work.labels, table);
     print!(rt; "stages left{} {left}", Given(work))
 }
 
 fn first_over<R: Print>(rt: &R, work: &Work) -> io::Result<()> {
-    let top = live_table(work.stack, 0);
-    let found = table_values::first_over(&work.values, top.at, top.rows, top.columns);
+    let table = live_table(work.stack, 0).area();
+    let found = table_values::first_over(&work.values, table);
     print!(rt; "first OVER{}{}", Given(work), Searched(found))
 }
 
-// A trace line of SCAN, 5 rows, 2 columns and 3 stages left, in a trace of nine places that holds sevens.
+// A trace line of SCAN, 5 rows, 2 columns and 3 stages left, in a trace of nine places that holds sevens: the function under trial writes to it.
 fn trace<R: Print>(rt: &R, step: usize) -> io::Result<()> {
     let mut trace = [7; 9];
     let told = done(trace_lines::write_line(&mut trace, step, 1, 5, 2, 3));
@@ -85,7 +78,7 @@ fn trace<R: Print>(rt: &R, step: usize) -> io::Result<()> {
     )
 }
 
-// So many values from a place on, in an output of five places that holds sevens.
+// So many values from a place on, in an output of five places that holds sevens: the function under trial writes to it.
 fn output<R: Print>(rt: &R, work: &Work, count: usize, at: usize) -> io::Result<()> {
     let mut released = [7; 5];
     let told = done(table_values::copy_out(&work.values, at, count, &mut released));
@@ -103,7 +96,8 @@ fn output<R: Print>(rt: &R, work: &Work, count: usize, at: usize) -> io::Result<
 
 // Work memory set to zero: its first cell, the last that is cleared, and the one behind it.
 fn clear<R: Print>(rt: &R, work: &mut Work) -> io::Result<()> {
-    let told = done(zeros::clear_memory(&mut work.values, &mut work.labels, &mut work.marks));
+    let (mut cells, marks) = work.lent();
+    let told = done(zeros::clear_memory(&mut cells, marks));
     let (values, labels) = (work.values.as_slice(), work.labels.as_slice());
     print!(rt;
         "clear gives{told}{}",
@@ -125,6 +119,7 @@ fn clear<R: Print>(rt: &R, work: &mut Work) -> io::Result<()> {
     )
 }
 
+// What such a function answers is one of two words, with its comma.
 fn done(done: bool) -> &'static str {
     if done { " done," } else { " does not fit," }
 }

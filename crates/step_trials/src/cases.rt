@@ -1,14 +1,14 @@
-// The case of a line, by the words before its colon.
+// The case of a line, by the words before its colon. Nothing compares two of the types here.
 ghost use Rattle.std.specs.Prelude.{◌≡◌, unwrap_or};
 ghost use Rattle.step_trials.specs.Words.{short_of, part_of};
 
-use crate::reading::{bits, count, first, number, part, same, short};
+use crate::reading::{bits, count, first, number, part, short};
 use plan::{Aggregate, Comparison, Operand, Step, Transform};
 use std::alloc::{AllocError, Global};
 use value::pattern::signed;
 
-// A step, SCAN with the bytes of its container; a NOISE of a column, with its draws; or a container, stages left, first OVER, a trace line, so many values
-// from a place on as an output, or memory set to zero.
+// A step, SCAN with the bytes of its container; a NOISE of a column, with its draws; or a container, stages left, first OVER, a trace line, so many
+// values from a place on as an output, or memory set to zero.
 #[derive(Drop)]
 pub enum Case {
     Step(Step, Vec<u8>),
@@ -104,22 +104,18 @@ pub fn read(alloc: Global, line: &[u8], container: &[u8]) -> Result<Option<Case>
 fn decode(alloc: Global, digits: &[u8], count: usize) -> Result<Option<Vec<u8>>, AllocError> {
     let mut bytes = Vec::new(alloc);
     for pair in digits.chunks_exact(2).take(count) {
-        match number(16, pair) {
-            Some(byte) if byte < 256 => bytes.push(byte as u8)?,
+        match number(16, pair).map(u8::try_from) {
+            Some(Ok(byte)) => bytes.push(byte)?,
             _ => return Ok(None),
         }
     }
-    Ok(if count <= 128 && bytes.len() == count {
-        Some(bytes)
-    } else {
-        None
-    })
+    Ok((count <= 128 && bytes.len() == count).then_some(bytes))
 }
 
 // The draws that a word has, parted by commas, at most four; or none.
 fn draws(alloc: Global, word: &[u8]) -> Result<Option<Vec<i64>>, AllocError> {
     let mut draws = Vec::new(alloc);
-    if same(word, b"none") {
+    if word == b"none".as_slice() {
         return Ok(Some(draws));
     }
     if 4 <= count(word, b',') {

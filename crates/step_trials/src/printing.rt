@@ -1,4 +1,4 @@
-// A case and what its answer is made of, as they are printed.
+// A case and what its answer is made of, as they are printed. Nothing compares two of the types here.
 use crate::tables::Work;
 use cells::{At, DoesNotFit};
 use memory::Refusal;
@@ -260,8 +260,8 @@ pub struct Refused(pub Refusal);
 
 impl fmt::Display for Refused {
     fn fmt<W: fmt::Write>(&self, f: &mut fmt::Formatter<W>) -> fmt::Result {
-        let (number, row, column) = (self.0.number(), self.0.row(), self.0.column());
-        write!(f, " {number} at row {row} column {column}")
+        let At { row, column } = self.0.at();
+        write!(f, " {} at row {row} column {column}", self.0.number())
     }
 }
 

@@ -1,14 +1,14 @@
-// The tables of a case, put into work memory of its own.
+// The tables of a case, put into work memory of its own. Nothing compares two of the types here.
 ghost use Rattle.std.specs.Prelude.{◌≡◌};
 ghost use Rattle.step_trials.specs.Meanings.{word_of};
 
 use crate::reading::{bits, count, number, part, short};
+use cells::LentCells;
 use memory::{LiveTable, Stack, live_table, no_tables, with_table};
 use std::alloc::{AllocError, Global};
 use value::pattern::signed;
 
-// What stands between tables: a table of so many columns, a cell with the bits of its value and its label, a number, a word by its name, or what
-// can't be read.
+// What stands between tables: a table of so many columns, a cell with the bits of its value and its label, a number, or a word by its name.
 #[derive(Clone, Copy)]
 pub enum Word {
     Columns(u64),
@@ -19,37 +19,32 @@ pub enum Word {
     Marks,
     More,
     Other,
-    Unreadable,
 }
 
-// What a word is by its bar or its colon, or else by its name.
+// What a word is by its bar or its colon, or else by its name; or none, where it can't be read.
 #[tactic(auto, unfolding(crate::specs::Meanings::word_of))]
-fn meaning(text: &[u8], named: Word) -> Word
+fn meaning(text: &[u8], named: Option<Word>) -> Option<Word>
     ensures { result ≡ word_of text.now named }
 {
     if count(text, b'|') == 1 {
-        return match number(10, part(text, b'|', 0)) {
-            Some(columns) => Word::Columns(columns),
-            None => Word::Unreadable,
-        };
+        return number(10, part(text, b'|', 0)).map(Word::Columns);
     }
     if count(text, b':') == 1 {
-        return match (bits(part(text, b':', 0)), short(16, part(text, b':', 1))) {
-            (Some(bits), Some(label)) => Word::Cell(bits, label),
-            _ => Word::Unreadable,
-        };
+        let bits = bits(part(text, b':', 0))?;
+        let label = short(16, part(text, b':', 1))?;
+        return Some(Word::Cell(bits, label));
     }
     named
 }
 
-fn name(text: &[u8]) -> Word {
+fn name(text: &[u8]) -> Option<Word> {
     match text {
-        b"values," => Word::Values,
-        b"labels," => Word::Labels,
-        b"marks," => Word::Marks,
-        b"more" => Word::More,
-        b"/" | b".." | b"of" | b"rows" | b"no" | b"tables" | b"one" => Word::Other,
-        _ => short(10, text).map_or(Word::Unreadable, Word::Count),
+        b"values," => Some(Word::Values),
+        b"labels," => Some(Word::Labels),
+        b"marks," => Some(Word::Marks),
+        b"more" => Some(Word::More),
+        b"/" | b".." | b"of" | b"rows" | b"no" | b"tables" | b"one" => Some(Word::Other),
+        _ => short(10, text).map(Word::Count),
     }
 }
 
@@ -81,6 +76,15 @@ impl Work {
         })
     }
 
+    // The cells and the marks, as they are lent to a step.
+    pub fn lent(&mut self) -> (LentCells<'_>, &mut [u64]) {
+        let cells = LentCells {
+            values: self.values.as_mut_slice(),
+            labels: self.labels.as_mut_slice(),
+        };
+        (cells, self.marks.as_mut_slice())
+    }
+
     // Puts a cell at a place, and in all places behind it too.
     fn put(&mut self, at: usize, value: i64, label: u32) {
         if let Some(values) = self.values.as_mut_slice().get_mut(at..) {
@@ -98,13 +102,13 @@ impl Work {
         }
     }
 
-    // Reads a word behind so many cells of the table on top, and answers how many these are then; or nothing, where it can't be read.
-    fn read(&mut self, word: Word, cells: usize) -> Option<usize> {
+    // Reads a word behind so many cells of the table on top, and answers how many these are then.
+    fn read(&mut self, word: Word, cells: usize) -> usize {
         let top = live_table(self.stack, 0);
         match word {
             Word::Columns(columns) => {
                 self.stack = with_table(self.stack, self.stack.depth, columns as usize, 0);
-                Some(0)
+                0
             }
             Word::Cell(bits, label) => {
                 self.put(top.at.wrapping_add(cells), signed(bits), label);
@@ -112,18 +116,17 @@ impl Work {
                 if 0 < top.columns {
                     self.rows(top, cells / top.columns);
                 }
-                Some(cells)
+                cells
             }
             Word::Count(rows) => {
                 self.rows(top, rows as usize);
-                Some(rows as usize)
+                rows as usize
             }
             Word::More => {
                 self.stack.depth = 4;
-                Some(cells)
+                cells
             }
-            Word::Values | Word::Labels | Word::Marks | Word::Other => Some(cells),
-            Word::Unreadable => None,
+            Word::Values | Word::Labels | Word::Marks | Word::Other => cells,
         }
     }
 
@@ -146,17 +149,16 @@ pub fn load(alloc: Global, text: &[u8]) -> Result<Option<Work>, AllocError> {
     };
     for piece in text.split_inclusive(|byte| *byte == b' ') {
         let text = part(part(piece, b' ', 0), b';', 0);
-        let word = meaning(text, name(text));
+        let Some(word) = meaning(text, name(text)) else {
+            return Ok(None);
+        };
         match word {
             Word::Values => lent.values = cells,
             Word::Labels => lent.labels = cells,
             Word::Marks => lent.marks = cells,
             _ => {}
         }
-        match work.read(word, cells) {
-            Some(more) => cells = more,
-            None => return Ok(None),
-        }
+        cells = work.read(word, cells);
     }
     work.lend(lent);
     Ok(Some(work))

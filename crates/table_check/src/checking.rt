@@ -21,8 +21,7 @@ fn header_fits(table: &[u8]) -> bool
     let len = table.len();
     let shape = shape_of(table);
     (4 <= len)
-        & (1 <= shape.columns)
-        & (shape.columns <= 8)
+        & (1..=8).contains(&shape.columns)
         & (shape.rows <= 256)
         & (len == 4 + 12 * cell_count(table) as usize)
 }
@@ -59,7 +58,8 @@ fn check_cells(table: &[u8], at: usize, count: usize, least: u16) -> Result<(), 
     Ok(())
 }
 
-// 13, 14, 15 and 20 of a table part that begins at `at`, where no group minimum may be below `least`.
+// 13, 14, 15 and 20 of a table part that begins at `at`, where no group minimum may be below `least`. A part and its place are two parameters: each
+// check is stated over the part's bytes alone, and the place is only added to what it tells.
 #[tactic(auto, unfolding(crate::specs::Checks::check_table))]
 pub fn check_table(table: &[u8], at: u32, least: u16) -> Result<(), InputRefusal>
     ensures { input_says result ≡ check_table least table.now at }

@@ -1,10 +1,11 @@
 // The cells of a table, read into slices that the caller lends.
 ghost use Rattle.std.specs.Prelude.{◌≡◌, ◌+◌, ◌*◌, ◌≤◌, length};
+ghost use Rattle.cells.specs.promises.Lent.{SameCells};
 ghost use Rattle.little_endian.specs.Bytes.{number_at};
 ghost use Rattle.table_reader.specs.promises.Reading.{cell_values, cell_labels, overwritten, Read};
 ghost use Rattle.value.specs.Pattern.{signed_of};
 
-use cells::within;
+use cells::{LentCells, within};
 use little_endian::{eight, four};
 use table_part::{Shape, cell_count, shape_of};
 
@@ -26,7 +27,8 @@ fn label_at(table: &[u8], place: usize) -> u32
     four(field, 0)
 }
 
-// Writes the values and the labels of the first `count` cells, each from a place on.
+// Writes the values and the labels of the first `count` cells, each from a place on. By the index, since after a `zip` of two `iter_mut` a proof
+// knows no element of either slice.
 fn copy_cells(table: &[u8], values: &mut [i64], labels: &mut [u32], at: usize, count: usize)
     requires { (4 + 12 * count ≤ length table.now) × (at + count ≤ length values.old) × (at + count ≤ length labels.old) }
     ensures values_after { values.new ≡ overwritten values.old at (cell_values table.now count) }
@@ -40,18 +42,20 @@ fn copy_cells(table: &[u8], values: &mut [i64], labels: &mut [u32], at: usize, c
     }
 }
 
-// Writes a table's cells into two slices from a place on, the value of cell i to `at + i` of the one and its label to `at + i` of
-// the other, and answers its shape. Where the part or a slice is too short, it writes nothing.
-pub fn read_cells(table: &[u8], values: &mut [i64], labels: &mut [u32], at: usize) -> Option<Shape>
-    ensures { Read table.now values.old labels.old at result values.new labels.new }
+// Writes a table's cells from a place on, the value of cell i to `at + i` of the values and its label to `at + i` of the labels,
+// and answers its shape. Where the part or a slice is too short, it writes nothing.
+pub fn read_cells(table: &[u8], cells: &mut LentCells, at: usize) -> Option<Shape>
+    ensures done { Read table.now cells.old.values.now cells.old.labels.now at result
+        cells.new.values.now cells.new.labels.now }
+    ensures same { SameCells cells.old cells.new }
 {
     let count = cell_count(table) as usize;
     let fits = (4 + 12 * count <= table.len())
-        & within(at, count, values.len())
-        & within(at, count, labels.len());
+        & within(at, count, cells.values.len())
+        & within(at, count, cells.labels.len());
     if !fits {
         return None;
     }
-    copy_cells(table, values, labels, at, count);
+    copy_cells(table, cells.values, cells.labels, at, count);
     Some(shape_of(table))
 }

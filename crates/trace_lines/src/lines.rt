@@ -2,7 +2,8 @@
 ghost use Rattle.std.specs.Prelude.{◌≡◌, cond};
 ghost use Rattle.trace_lines.specs.promises.Lines as spec;
 
-// Writes a step's trace line, and answers true. Where the trace is too short for it, it changes nothing.
+// Writes a step's trace line, and answers true. Where the trace is too short for it, it changes nothing. By the index, since a proof learns no
+// element of a slice that is written through `as_chunks_mut` or `get_mut`.
 pub fn write_line(
     trace: &mut [u32],
     step: usize,

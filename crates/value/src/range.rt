@@ -10,7 +10,7 @@ const LEAST: i64 = -140_737_488_355_328;
 // 2^47 - 1.
 const MOST: i64 = 140_737_488_355_327;
 
-// 2^47, the one number that stands for a result outside the range.
+// 2^47, the one number that stands for a result outside the range. It is a number and no Option: nothing may branch on a value that may be locked.
 pub const OVER: i64 = 140_737_488_355_328;
 
 // Whether a number is a value.

@@ -37,11 +37,11 @@ use Rattle.demands.proofs.Prepared.{container-ok}
 
 -- the record at an index of an accepted plan has its step
 module _ (given : Given) (index : ℕ) (ok : check_given given ≡ accepted) (h : index < length (plan_given given)) {part : List ℕ} (p : part ≡ part_of given.container 0) {f : Option Step} (e : f ≡ step_at part index) where
-  there : f ≡ Some (step_number given index)
+  pub there : f ≡ Some (step_number given index)
   there = e ∙ ap (λ (part : List ℕ). step_at part index) p ∙ steps-found given.container (container-ok given ok) index (omega (arith, steps-counted given.container (container-ok given ok)))
 
-  pub found-step : unwrap_or f Union ≡ step_number given index
-  found-step = ap (λ (found : Option Step). unwrap_or found Union) there
+  pub found-step : {next : Step} → f ≡ Some next → next ≡ step_number given index
+  found-step some = ap (λ (found : Option Step). unwrap_or found Union) (sym some ∙ there)
 
 module _ {given : Given} (index used : ℕ) {w : Memory} {stack : Stack} (s : Steady given (step_number given index) w stack) {known : Step} (e : known ≡ step_number given index)
     {done : Result Stack StepError} {w' : Memory} (t : Taken given.container (drop used given.draws) known w stack done w') where

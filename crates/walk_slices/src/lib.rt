@@ -23,7 +23,7 @@ pub fn write_step(labels: &[u32], trace: &mut [u32], stack: Stack, index: usize,
         return false;
     }
     let table = memory::live_table(stack, 0);
-    let stages = trace_lines::stages_left(labels, table.at, table.rows, table.columns);
+    let stages = trace_lines::stages_left(labels, table.area());
     trace_lines::write_line(
         trace,
         index,

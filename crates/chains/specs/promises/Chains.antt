@@ -1,15 +1,10 @@
 -- Rows with the same keys: for each row the first one and the next one.
-use Rattle.std.specs.Prelude.{ℕ, suc, ◌+◌, ◌-◌, ◌*◌, ◌≤◌, ◌<◌, ◌≡◌, Bool, true, false, cond, List, [], ◌∷◌, ◌++◌, map, ℤ, length, get_or, take, drop, replicate}
+use Rattle.std.specs.Prelude.{ℕ, suc, ◌+◌, ◌-◌, ◌*◌, ◌≤◌, ◌<◌, ◌≡◌, true, false, cond, List, [], ◌∷◌, ◌++◌, ℤ, length, get_or, take, drop, replicate}
 use Rattle.cells.specs.promises.Cells.{cells_of, row_from, table_rows}
 use Rattle.cells.specs.promises.Search.{table_within}
 use Rattle.chains.specs.declared.Chains.{Chains}
-use Rattle.chains.specs.declared.leader.Lead.{Lead}
 use Rattle.plan.specs.Group.{same_keys}
 use Rattle.plan.specs.Table.{Cell, Row}
-
--- the rows that begin at two places have the same keys
-abbrev pub same_at : ℕ → ℕ → List Cell → ℕ → ℕ → Bool
-same_at keys columns memory first second = same_keys keys columns (row_from columns memory first) (row_from columns memory second)
 
 -- the number of the first of the earlier rows with the keys of a row; where there is none, how many they are
 abbrev pub first_same : ℕ → ℕ → Row → List Row → ℕ
@@ -24,26 +19,6 @@ first_of keys columns row memory at = first_same keys columns (row_from columns 
 abbrev pub leaders_after : ℕ → ℕ → List Row → List Row → List ℕ
 leaders_after keys columns earlier [] = []
 leaders_after keys columns earlier (row ∷ rest) = first_same keys columns row earlier ∷ leaders_after keys columns (earlier ++ (row ∷ [])) rest
-
--- the rows of a list of rows that lead groups, and their hash values
-abbrev pub rows_of : List Lead → List ℕ
-rows_of leads = map (λ lead. lead.row) leads
-
-abbrev pub hashes_of : List Lead → List ℕ
-hashes_of leads = map (λ lead. lead.hash) leads
-
--- a table that lies within a slice of this length
-pub record TableInside (at rows columns length : ℕ) : Type 0 where
-  pub few-rows : rows ≤ 256
-  pub few-columns : columns ≤ 8
-  pub within : at + rows * columns ≤ length
-
--- a list of the rows that lead groups, among the first rows of a table
-pub record Leads (keys columns : ℕ) (table : List Row) (row : ℕ) (leads : List ℕ) (count : ℕ) : Type 0 where
-  pub found : List ℕ
-  pub known : take row found ≡ leaders_after keys columns [] table
-  pub lead : (i : ℕ) → i < count → get_or found (get_or leads i 0) 0 ≡ get_or leads i 0
-  pub all : (other : ℕ) → other < row → get_or found other 0 ≡ other → (i : ℕ) × (i < count) × (get_or leads i 0 ≡ other)
 
 -- the leaders of a table's rows, whatever its labels, and zeros after them
 pub record Led (values : List ℤ) (at rows columns keys : ℕ) (leaders : List ℕ) : Type 0 where

@@ -28,9 +28,9 @@ values_after (fails_at place) old = old
 -- ---- one pass over the bytes, that writes the first values
 
 -- a value that a byte ends, where there is room for it
-abbrev pub stored : ℕ → ℕ → List ℤ → List ℤ → List ℤ
-stored room count [] values = values
-stored room count (value ∷ more) values = cond (ltb count room) (set values count value) values
+abbrev pub stored : ℕ → List ℤ → List ℤ → List ℤ
+stored count [] values = values
+stored count (value ∷ more) values = cond (ltb count (length values)) (set values count value) values
 
 abbrev pub size_fits : Spot → Type 0
 size_fits (spot.Names i) = Unit
@@ -51,8 +51,8 @@ pass_end (spot.Row columns) rows count place = Err (reading.Wrong place)
 pass_end spot.Wrong rows count place = Err (reading.Wrong place)
 
 -- what a pass tells of what reading comes to, and which values it has written
-abbrev pub Passed : Read → ℕ → List ℤ → Result Counts ReadingError → List ℤ → Type 0
-Passed read room old (Ok found) new =
-    (values : List ℤ) × (read ≡ table found.columns (cut found.columns found.rows values)) × (length values ≡ found.rows * found.columns) × (found.count ≡ length values) × Written old 0 (take room values) new
-Passed read room old (Err (reading.Wrong place)) new = (values : List ℤ) × (read ≡ fails_at place) × Written old 0 (take room values) new
-Passed read room old (Err reading.DoesNotFit) new = ⊥
+abbrev pub Passed : Read → List ℤ → Result Counts ReadingError → List ℤ → Type 0
+Passed read old (Ok found) new =
+    (values : List ℤ) × (read ≡ table found.columns (cut found.columns found.rows values)) × (length values ≡ found.rows * found.columns) × (found.count ≡ length values) × Written old 0 (take (length old) values) new
+Passed read old (Err (reading.Wrong place)) new = (values : List ℤ) × (read ≡ fails_at place) × Written old 0 (take (length old) values) new
+Passed read old (Err reading.DoesNotFit) new = ⊥

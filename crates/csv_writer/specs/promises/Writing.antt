@@ -1,5 +1,5 @@
 -- What the functions that write a text answer, for all arguments.
-use Rattle.std.specs.Prelude.{ℕ, Bool, cond, ◌&&◌, List, ◌++◌, leb, ℤ, length, drop, Result, Ok, Err}
+use Rattle.std.specs.Prelude.{ℕ, Bool, cond, ◌&&◌, List, ◌++◌, leb, ℤ, length, drop, Option, Some, None, Result, Ok, Err}
 use Rattle.cells.specs.promises.Search.{table_within}
 use Rattle.csv_text.specs.Text.{text_of, cut}
 use Rattle.csv_writer.specs.declared.write.WritingError.{WritingError}
@@ -13,9 +13,9 @@ is_table values rows columns = leb 1 columns && table_within 0 rows columns (len
 abbrev pub text_from : List ℤ → ℕ → ℕ → List ℕ
 text_from values rows columns = text_of columns (cut columns rows values)
 
--- its length, and 0, which no text has, where there is no such table
-abbrev pub text_length : List ℤ → ℕ → ℕ → ℕ
-text_length values rows columns = cond (is_table values rows columns) (length (text_from values rows columns)) 0
+-- its length, if there is such a table
+abbrev pub text_length : List ℤ → ℕ → ℕ → Option ℕ
+text_length values rows columns = cond (is_table values rows columns) (Some (length (text_from values rows columns))) None
 
 -- a slice has room for its text
 abbrev pub text_fits : List ℤ → ℕ → ℕ → List ℕ → Bool

@@ -17,16 +17,16 @@ use Rattle.group_refusal.proofs.refusal.Goals.{After-not_clear, Else-not-column_
 
 -- the labels were tested
 fits : (c : Else-not-column_formed) → let a = c.args in column_formed_at a.labels.now a.table.at a.table.rows a.table.columns a.column ≡ true
-fits c = sym c.column_formed.ensures ∙ c.if-not-column_formed.false
+fits c = sym (rw c.area-area.ensures at c.column_formed.ensures) ∙ c.if-not-column_formed.false
 
 -- the labels were tested
 fits-at-After-not_clear : (c : After-not_clear) → let a = c.args in column_formed_at a.labels.now a.table.at a.table.rows a.table.columns a.column ≡ true
-fits-at-After-not_clear c = sym c.column_formed.ensures ∙ c.if-not-column_formed.false
+fits-at-After-not_clear c = sym (rw c.area-area.ensures at c.column_formed.ensures) ∙ c.if-not-column_formed.false
 
 keys : (c : After-not_clear) → let a = c.args in place_says 31 0 c.not_clear.result ≡ says (not_clear (in_mask a.keys) 31 0 (labels_in a.labels.now a.table))
 keys c =
     let a = c.args in
-    c.not_clear.ensures 31 0 ∙ rw (formed-table a.labels.now a.table a.column (fits-at-After-not_clear c)).is
+    rw c.area-area.ensures at (c.not_clear.ensures 31 0) ∙ rw (formed-table a.labels.now a.table a.column (fits-at-After-not_clear c)).is
 
 pub returns-in_err-at : goal.returns-in_err-at
 returns-in_err-at c = absurd (never-unfit (sym (ap (place_says 31 0) c.in_err-at.was) ∙ keys (goal.at.returns-in_err-at c).After-not_clear))

@@ -1,5 +1,6 @@
 -- The stack of live tables: "Steps on a stack of at most three tables".
 use Rattle.std.specs.Prelude.{ℕ, suc, ◌-◌, ◌*◌, Bool, cond, ◌&&◌, List, [], ◌∷◌, eqb, leb, ltb, get_or}
+use Rattle.cells.specs.declared.ranges.Area.{Area}
 use Rattle.cells.specs.promises.Work.{room}
 use Rattle.live_tables.specs.declared.LiveTable.{LiveTable}
 use Rattle.live_tables.specs.declared.Stack.{Stack}
@@ -24,6 +25,10 @@ live_at stack index = record { slot = index; at = slot index; marks = mark_slot 
 
 abbrev pub no_table : LiveTable
 no_table = record { slot = 0; at = 0; marks = 0; rows = 0; columns = 0 }
+
+-- where its cells stand
+abbrev pub area_of : LiveTable → Area
+area_of table = record { at = table.at; rows = table.rows; columns = table.columns }
 
 unfoldable pub live_table : Stack → ℕ → LiveTable
 live_table stack below = cond (leb stack.depth 3 && ltb below stack.depth) (live_at stack (stack.depth - 1 - below)) no_table

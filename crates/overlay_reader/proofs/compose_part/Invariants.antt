@@ -6,4 +6,4 @@ use Rattle.overlay_reader.specs.promises.Composing.{composed_labels}
 use Rattle.overlay_reader.proofs.compose_part.Given as goal
 
 abbrev pub invariant-loop-cell : goal.invariant-loop-cell
-invariant-loop-cell l = l.table ≡ composed_labels l.part 0 (take l.cell l.initial.table) ++ drop l.cell l.initial.table
+invariant-loop-cell l = l.labels ≡ composed_labels l.part 0 (take l.cell l.initial.labels) ++ drop l.cell l.initial.labels

@@ -1,6 +1,7 @@
 -- The rows of a join in work memory, made one after the other from the last slot's beginning on.
-use Rattle.std.specs.Prelude.{ℕ, ◌+◌, ◌-◌, ◌*◌, ◌≤◌, ◌<◌, min, ◌≡◌, Bool, true, false, ◌&&◌, List, [], ◌∷◌, ◌++◌, map, leb, ltb, length, take, drop}
+use Rattle.std.specs.Prelude.{ℕ, ◌+◌, ◌-◌, ◌*◌, ◌≤◌, ◌<◌, ◌≡◌, Bool, true, false, cond, ◌&&◌, List, [], ◌∷◌, ◌++◌, map, leb, ltb, length, take, drop, Result, Ok, Err}
 use Rattle.pairs.specs.declared.Side.{Side}
+use Rattle.pairs.specs.declared.TooMany.{TooMany}
 use Rattle.cells.specs.promises.Cells.{within, grid_of, row_from, table_rows}
 use Rattle.cells.specs.promises.Search.{table_within}
 use Rattle.cells.specs.promises.Work.{Work, Memory, cells_in, room, mark_room, Kept, MarksKept}
@@ -10,7 +11,7 @@ use Rattle.plan.specs.Join.{joined_row, joined_to, joined_rows}
 use Rattle.plan.specs.Table.{Cell, Row, flat, rows_of}
 
 -- two tables below the last slot with their keys, which make rows of at most 8 columns, in slices of these lengths
-pub record Sides (values labels : ℕ) (left right : Side) : Type 0 where
+pub record SidesFit (values labels : ℕ) (left right : Side) : Type 0 where
   pub values-room : room ≤ values
   pub labels-room : room ≤ labels
   pub left-rows : left.table.rows ≤ 256
@@ -63,10 +64,14 @@ all_rows memory left right = joined_rows left.key right.key (side_rows memory le
 abbrev pub with_cells : ℕ → List Cell → List Cell → List Cell
 with_cells at cells memory = take at memory ++ (cells ++ drop (at + length cells) memory)
 
--- Rows made after `made` rows: how many there are then, 257 standing for more than 256; the rows stand after those before, and nothing
--- below the last slot is changed.
-pub record Grown (made : ℕ) (left right : Side) (new : List Row) (before : Work) (count : ℕ) (after : Work) : Type 0 where
-  pub counted : count ≡ min (made + length new) 257
+-- so many rows, or that they are too many
+abbrev pub count_of : ℕ → Result ℕ TooMany
+count_of rows = cond (leb rows 256) (Ok rows) (Err (record {}))
+
+-- Rows made after `made` rows: how many there are then, at most 256; the rows stand after those before, and nothing below the last slot is
+-- changed.
+pub record Grown (made : ℕ) (left right : Side) (new : List Row) (before : Work) (count : Result ℕ TooMany) (after : Work) : Type 0 where
+  pub counted : count ≡ count_of (made + length new)
   pub put : made + length new ≤ 256 → cells_in after ≡ with_cells (last_slot + made * width left right) (flat new) (cells_in before)
   pub below : take last_slot (cells_in after) ≡ take last_slot (cells_in before)
   pub kept : Kept before after
@@ -87,7 +92,7 @@ abbrev pub marked_rows : Memory → Side → Side → List Row
 marked_rows memory left right = joined_rows left.key right.key (left_marked memory left) (side_rows (cells_in memory.work) right)
 
 -- All rows of the join, and their marks from the last slot's beginning on.
-pub record Joined (left right : Side) (before : Memory) (count : ℕ) (after : Memory) : Type 0 where
+pub record Joined (left right : Side) (before : Memory) (count : Result ℕ TooMany) (after : Memory) : Type 0 where
   pub grown : Grown 0 left right (all_rows (cells_in before.work) left right) before.work count after.work
   pub marked : length (all_rows (cells_in before.work) left right) ≤ 256
       → Written before.marks last_marks (map (λ row. row.mark) (marked_rows before left right)) after.marks
@@ -100,6 +105,6 @@ fits_all left right memory =
     sides_fit (length memory.work.values) (length memory.work.labels) left right && marks_fit (length memory.marks) left
 
 -- the same, where the tables fit; arguments that do not fit change nothing
-pub record RowsJoined (left right : Side) (before : Memory) (count : ℕ) (after : Memory) : Type 0 where
-  pub misfit : fits_all left right before ≡ false → (count ≡ 0) × (after ≡ before)
+pub record RowsJoined (left right : Side) (before : Memory) (count : Result ℕ TooMany) (after : Memory) : Type 0 where
+  pub misfit : fits_all left right before ≡ false → (count ≡ Ok 0) × (after ≡ before)
   pub joined : fits_all left right before ≡ true → Joined left right before count after

@@ -9,13 +9,13 @@ use Rattle.search.proofs.column_formed.Goals as goal
 pub returns-then-not-well_formed : goal.returns-then-not-well_formed
 returns-then-not-well_formed c =
     let a = c.args in
-    rw (sym c.table_within.ensures ∙ c.if-not-table_within.false, lt-ltb _ _ c.if-columns-column.false)
-    (sym (c.loop-row.invariant ∙ formed-next a.labels.now a.columns a.column a.rows c.loop-row.row _ c.loop-row-test.true c.if-columns-column.false
+    rw (sym c.within.ensures ∙ c.if-not-within.false, lt-ltb _ _ c.if-columns-column.false)
+    (sym (c.loop-row.invariant ∙ formed-next a.labels.now a.table.columns a.column a.table.rows c.loop-row.row _ c.loop-row-test.true c.if-columns-column.false
     ∙ rw (sym c.well_formed-in-loop-row.ensures ∙ c.if-not-well_formed.true)))
 
 pub loop-row-preserved : goal.loop-row-preserved
 loop-row-preserved c =
     let a = c.args in
-    let next : a.at + (c.loop-row.row + 1) * a.columns ≡ a.at + c.loop-row.row * a.columns + a.columns = omega arith in
-    rw next (c.loop-row.invariant ∙ formed-next a.labels.now a.columns a.column a.rows c.loop-row.row _ c.loop-row-test.true c.if-columns-column.false
+    let next : a.table.at + (c.loop-row.row + 1) * a.table.columns ≡ a.table.at + c.loop-row.row * a.table.columns + a.table.columns = omega arith in
+    rw next (c.loop-row.invariant ∙ formed-next a.labels.now a.table.columns a.column a.table.rows c.loop-row.row _ c.loop-row-test.true c.if-columns-column.false
     ∙ rw (sym c.well_formed-in-loop-row.ensures ∙ c.if-not-well_formed.false))

@@ -35,7 +35,7 @@ returns c =
     record {
       told = rw (fits (goal.at.returns c).After-live_table-table, le-leb 1 a.stack.depth (omega (arith, c.if-stack-eq0.false))) c.write_line.ensures.value;
       trace-is = λ values marks h k.
-          c.write_line.ensures.trace_after ∙ rw (c.kind_of.ensures, c.stages_left-stages.ensures)
+          c.write_line.ensures.trace_after ∙ rw (c.kind_of.ensures, c.stages_left-stages.ensures, c.area.ensures)
           (ap (λ (line : Line). cond c.write_line.result (with_line a.index line a.trace.now) a.trace.now)
           (sym (line-is a.step (memory_of values a.labels.now marks) (longer (length values) h (is (goal.at.returns c).After-live_table-table)) k (live (goal.at.returns c).After-live_table-table))));
     }

@@ -17,36 +17,36 @@ use Rattle.apply.proofs.Meaning.{ApplyFits, apply-parts, refused-apply, made-app
 use Rattle.apply.proofs.applying.apply.Goals as goal
 use Rattle.apply.proofs.applying.apply.Goals.{After-live_table-top}
 
-fitted : (c : After-live_table-top) → let a = c.args in (fits (Apply a.column a.transform) [] (length a.values.now) (length a.labels.now) a.stack ≡ true) × (c.in_ok-columns.columns ≡ made_columns (Apply a.column a.transform) [] (widths_to a.stack a.stack.depth))
+fitted : (c : After-live_table-top) → let a = c.args in (fits (Apply a.column a.transform) [] (length a.cells.now.values.now) (length a.cells.now.labels.now) a.stack ≡ true) × (c.in_ok-columns.columns ≡ made_columns (Apply a.column a.transform) [] (widths_to a.stack a.stack.depth))
 fitted c = columns-fit _ _ (sym c.fit.ensures ∙ c.in_ok-columns.was)
 
-parts : (c : After-live_table-top) → let a = c.args in ApplyFits a.column a.transform (length a.values.now) (length a.labels.now) a.stack c.live_table-top.result c.in_ok-columns.columns
+parts : (c : After-live_table-top) → let a = c.args in ApplyFits a.column a.transform (length a.cells.now.values.now) (length a.cells.now.labels.now) a.stack c.live_table-top.result c.in_ok-columns.columns
 parts c = let a = c.args in apply-parts a.column a.transform [] _ _ a.stack _ _ c.live_table-top.ensures (fitted c).0 (fitted c).1
 
-pub returns-in_err-columns : goal.returns-in_err-columns
+pub returns-in_err-columns-clause-done : goal.returns-in_err-columns-clause-done
 unfolding columns_exist made_columns
-returns-in_err-columns c =
+returns-in_err-columns-clause-done c =
     let a = c.args in
     let same : c.from_residual.result ≡ Err error.DoesNotFit = search rules in
     λ supply marks room. rw same (unfit-done (Apply a.column a.transform) supply _ _
-    (misfit-first a.column a.transform supply (memory_of a.values.now a.labels.now marks) a.stack (not-even marks (columns-misfit _ _ (sym c.fit.ensures ∙ c.in_err-columns.was)))))
+    (misfit-first a.column a.transform supply (memory_of a.cells.now.values.now a.cells.now.labels.now marks) a.stack (not-even marks (columns-misfit _ _ (sym c.fit.ensures ∙ c.in_err-columns.was)))))
 
-pub returns-in_err-refusal : goal.returns-in_err-refusal
+pub returns-in_err-refusal-clause-done : goal.returns-in_err-refusal-clause-done
 unfolding columns_exist made_columns
-returns-in_err-refusal c =
+returns-in_err-refusal-clause-done c =
     let a = c.args in
-    let top = (goal.at.returns-in_err-refusal c).After-live_table-top in
+    let top = (goal.at.returns-in_err-refusal-clause-done c).After-live_table-top in
     let wrong = c.in_err-refusal.field-0.0 in
     let same : c.from_residual-in_err-refusal.result ≡ Err wrong = search rules in
-    λ supply marks room. rw same (refused-apply a.column a.transform supply (memory_of a.values.now a.labels.now marks) a.stack room (marks-too marks room (fitted top).0) (parts top)
+    λ supply marks room. rw same (refused-apply a.column a.transform supply (memory_of a.cells.now.values.now a.cells.now.labels.now marks) a.stack room (marks-too marks room (fitted top).0) (parts top)
     wrong (sym (ap step_says c.in_err-refusal.was) ∙ c.refusal.ensures))
 
-pub returns : goal.returns
+pub returns-clause-done : goal.returns-clause-done
 unfolding columns_exist made_columns
-returns c =
+returns-clause-done c =
     let a = c.args in
-    let top = (goal.at.returns c).After-live_table-top in
+    let top = (goal.at.returns-clause-done c).After-live_table-top in
     let p = parts top in
     λ supply marks room. rw c.with_table.ensures
-    (made-apply a.column a.transform supply (memory_of a.values.now a.labels.now marks) a.stack room (marks-too marks room (fitted top).0) p
+    (made-apply a.column a.transform supply (memory_of a.cells.now.values.now a.cells.now.labels.now marks) a.stack room (marks-too marks room (fitted top).0) p
     (sym (ap step_says c.in_ok-refusal.was) ∙ c.refusal.ensures) (c.extend.ensures.made (c.extend.ensures.value ∙ extends-is p.inside_is p.narrow p.below)))

@@ -7,7 +7,7 @@ use Rattle.csv_reader.proofs.Reading.{reads-begins, reads-size, reads-next, read
 use Rattle.csv_reader.proofs.read.go_through.Goals as goal
 
 pub loop-i-init : goal.loop-i-init
-loop-i-init c = let a = c.args in reads-begins a.text.now a.fewest a.values.now a.room
+loop-i-init c = let a = c.args in reads-begins a.text.now a.fewest a.values.now
 
 pub shape_of-values-then-is_wrong : goal.shape_of-values-then-is_wrong
 shape_of-values-then-is_wrong c = as_long c.loop-i.invariant.written
@@ -18,9 +18,7 @@ returns-then-is_wrong c =
 
 pub put_ended-count-requires : goal.put_ended-count-requires
 put_ended-count-requires c =
-    let s = c.loop-i.invariant in
-    let p = c.requires in
-    (omega (arith, as_long s.written), omega (arith, s.few, c.loop-i-test.true), reads-size s)
+    let s = c.loop-i.invariant in (omega (arith, s.few, c.loop-i-test.true), reads-size s)
 
 pub overflow_add-rows : goal.overflow_add-rows
 overflow_add-rows c =
@@ -28,7 +26,7 @@ overflow_add-rows c =
 
 pub loop-i-preserved : goal.loop-i-preserved
 loop-i-preserved c =
-    reads-next c.loop-i.invariant c.requires c.loop-i-test.true refl c.next-then.ensures (sym c.is_wrong.ensures ∙ c.if-is_wrong.false)
+    reads-next c.loop-i.invariant c.loop-i-test.true refl c.next-then.ensures (sym c.is_wrong.ensures ∙ c.if-is_wrong.false)
     c.put_ended-count.ensures.0 c.put_ended-count.ensures.1 c.rows_ended-rows.ensures.0
 
 pub shape_of-values : goal.shape_of-values

@@ -3,4 +3,4 @@ use Rattle.csv_reader.proofs.Reading.{Reads}
 use Rattle.csv_reader.proofs.read.go_through.Given as goal
 
 abbrev pub invariant-loop-i : goal.invariant-loop-i
-invariant-loop-i l = Reads l.text l.fewest l.initial.values l.room l.values l.spot l.count l.rows l.i
+invariant-loop-i l = Reads l.text l.fewest l.initial.values l.values l.spot l.count l.rows l.i

@@ -1,25 +1,18 @@
 -- `csv_reader::spot::after_names` meets its contract. Assumes nothing.
-use Prim.Native.Nat.{◌<◌}
 use mathlib.Core.Path.{sym, ◌∙◌}
-use mathlib.Core.Bool.{and-eq-true_iff}
-use native.Mathlib.Omega.{arith}
-use borrow.Author.Tests.{ltb-true}
+use Rattle.csv_text.specs.Text.{names}
 use Rattle.csv_reader.specs.Reader.{after_names}
+use Rattle.csv_reader.proofs.Spots.{is_next}
 use Rattle.csv_reader.proofs.spot.after_names.Goals as goal
 
-pub overflow_add-result : goal.overflow_add-result
-overflow_add-result c =
-    let h : c.args.i < 23 = ltb-true _ 23 ((and-eq-true_iff _ _).0 (sym c.is_name_byte.ensures ∙ c.if-is_name_byte.true)).0 in
-    omega arith
-
-pub returns-then-is_name_byte : goal.returns-then-is_name_byte
+pub returns-then-eq : goal.returns-then-eq
 unfolding after_names
-returns-then-is_name_byte c = rw (sym c.is_name_byte.ensures ∙ c.if-is_name_byte.true)
+returns-then-eq c = rw (sym (is_next names c.args.i c.get.result _ c.get.ensures.lookup) ∙ sym c.eq.ensures ∙ c.if-eq.true)
 
-pub returns-then-byte-end_byte : goal.returns-then-byte-end_byte
+pub returns-then-byte-i : goal.returns-then-byte-i
 unfolding after_names
-returns-then-byte-end_byte c = rw (sym c.is_name_byte.ensures ∙ c.if-is_name_byte.false, rw c.end_byte.ensures at c.if-byte-end_byte.true)
+returns-then-byte-i c = rw (sym (is_next names c.args.i c.get.result _ c.get.ensures.lookup) ∙ sym c.eq.ensures ∙ c.if-eq.false, c.if-byte-i.true)
 
 pub returns : goal.returns
 unfolding after_names
-returns c = rw (sym c.is_name_byte.ensures ∙ c.if-is_name_byte.false, rw c.end_byte.ensures at c.if-byte-end_byte.false)
+returns c = rw (sym (is_next names c.args.i c.get.result _ c.get.ensures.lookup) ∙ sym c.eq.ensures ∙ c.if-eq.false, c.if-byte-i.false)

@@ -1,13 +1,12 @@
 -- `csv_reader::spot::after_return` meets its contract. Assumes nothing.
-use mathlib.Core.Path.{sym, ◌∙◌}
 use borrow.Author.Tests.{eq-eqb, ne_eqb}
 use Rattle.csv_reader.specs.Reader.{after_return}
 use Rattle.csv_reader.proofs.spot.after_return.Goals as goal
 
-pub returns-then-byte-end_byte : goal.returns-then-byte-end_byte
+pub returns-then-byte : goal.returns-then-byte
 unfolding after_return
-returns-then-byte-end_byte c = rw (eq-eqb _ 10 (c.if-byte-end_byte.true ∙ c.end_byte.ensures))
+returns-then-byte c = rw (eq-eqb _ 10 c.if-byte.true)
 
-pub returns-else-byte-end_byte : goal.returns-else-byte-end_byte
+pub returns-else-byte : goal.returns-else-byte
 unfolding after_return
-returns-else-byte-end_byte c = rw (ne_eqb _ 10 (λ e. c.if-byte-end_byte.false (e ∙ sym c.end_byte.ensures)))
+returns-else-byte c = rw (ne_eqb _ 10 c.if-byte.false)

@@ -30,6 +30,6 @@ unfolding digit_of
 returns-then-more-largest c =
     rw (one-more _ _ _ (sym c.is_digit.ensures ∙ c.if-not-is_digit.false) (some_size (goal.at.returns-then-more-largest c).Else-size-gt14073748835532) (rw c.largest.ensures at c.if-more-largest.true))
 
-pub returns-else-more-largest : goal.returns-else-more-largest
+pub returns : goal.returns
 unfolding digit_of
-returns-else-more-largest c = rw (too_large _ _ _ (rw c.largest.ensures at c.if-more-largest.false))
+returns c = rw (too_large _ _ _ (rw c.largest.ensures at c.if-more-largest.false))

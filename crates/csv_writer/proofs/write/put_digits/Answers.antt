@@ -31,7 +31,7 @@ overflow_add-at c = omega (arith, left-room c.loop-rest.invariant)
 pub put_pair-requires : goal.put_pair-requires
 put_pair-requires c =
     let s = c.loop-rest.invariant in
-    (omega arith, omega (arith, left-room s, pair_left s c.loop-rest-test.true), c.requires.2)
+    (omega arith, omega (arith, left-room s, pair_left s c.loop-rest-test.true))
 
 pub loop-rest-smaller : goal.loop-rest-smaller
 loop-rest-smaller c = omega (arith, pair_left c.loop-rest.invariant c.loop-rest-test.true)
@@ -40,7 +40,7 @@ pub loop-rest-preserved : goal.loop-rest-preserved
 loop-rest-preserved c = pair_put c.loop-rest.invariant c.loop-rest-test.true c.put_pair.ensures
 
 pub put_pair-requires-then-rest-ge10 : goal.put_pair-requires-then-rest-ge10
-put_pair-requires-then-rest-ge10 c = (omega arith, last-room c.loop-rest.invariant (two (goal.at.put_pair-requires-then-rest-ge10 c).Then-rest-ge10), c.requires.2)
+put_pair-requires-then-rest-ge10 c = (omega arith, last-room c.loop-rest.invariant (two (goal.at.put_pair-requires-then-rest-ge10 c).Then-rest-ge10))
 
 pub overflow_cast-text : goal.overflow_cast-text
 overflow_cast-text c = omega arith

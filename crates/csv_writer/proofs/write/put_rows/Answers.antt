@@ -1,12 +1,11 @@
 -- `csv_writer::write::put_rows` meets its contract. Assumes nothing.
 use Prim.Native.Nat.{ℕ, ◌+◌, ◌^◌, ◌<◌}
-use mathlib.Core.Path.{refl}
 use mathlib.Core.List.{List, ◌++◌}
 use lib.IntN.{ℤ, pos}
 use lib.ListN.{length, get_or, drop}
 use lib.Signed.{mag}
 use Rattle.csv_text.specs.Text.{decimal}
-use Rattle.csv_writer.specs.promises.Cells.{digit_pairs, separator, next_left, spelled}
+use Rattle.csv_writer.specs.promises.Cells.{separator, next_left, spelled}
 use Rattle.csv_writer.proofs.Cells.{next-value, none_left, left-stays}
 use Rattle.csv_writer.proofs.Writing.{Sofar, sofar-begins, sofar-room, sofar-next, sofar-long, sofar-ends}
 use Rattle.value.proofs.Machine.{back, back_is}
@@ -22,10 +21,9 @@ pub loop-value-init : goal.loop-value-init
 loop-value-init c = (c.requires.0, sofar-begins _ c.args.text.now c.args.at c.requires.1)
 
 pub put_value-to-requires : goal.put_value-to-requires
-unfolding digit_pairs
 put_value-to-requires c =
     let next = value-next c.args.columns c.loop-value.left c.args.values.now c.loop-value.value-index c.loop-value-test.true c.value-1.given c.loop-value.invariant.1 in
-    (sofar-room _ _ next c.requires.1, refl)
+    sofar-room _ _ next c.requires.1
 
 pub put_separator-to-requires : goal.put_separator-to-requires
 put_separator-to-requires c =

@@ -34,15 +34,15 @@ pub digit_count-count-requires : goal.digit_count-count-requires
 digit_count-count-requires c = rw (size c) (size-fits c.args.v c.ranges.v.sfits)
 
 pub bounds-text-at : goal.bounds-text-at
-bounds-text-at c = omega (arith, c.requires.0, ap length (minus c))
+bounds-text-at c = omega (arith, c.requires, ap length (minus c))
 
 pub put_digits-requires : goal.put_digits-requires
 put_digits-requires c =
-    (c.digit_count-count.ensures, rw length-set (omega (arith, c.requires.0, ap length (minus (goal.at.put_digits-requires c).Then-negative), c.digit_count-count.ensures)), c.requires.1)
+    (c.digit_count-count.ensures, rw length-set (omega (arith, c.requires, ap length (minus (goal.at.put_digits-requires c).Then-negative), c.digit_count-count.ensures)))
 
 pub overflow_add-result-then-negative : goal.overflow_add-result-then-negative
 overflow_add-result-then-negative c =
-    omega (arith, c.requires.0, ap length (minus (goal.at.overflow_add-result-then-negative c).Then-negative), c.digit_count-count.ensures)
+    omega (arith, c.requires, ap length (minus (goal.at.overflow_add-result-then-negative c).Then-negative), c.digit_count-count.ensures)
 
 pub shape_of-text-then-negative : goal.shape_of-text-then-negative
 shape_of-text-then-negative c = as_long c.put_digits.ensures ∙ simp length-set
@@ -56,7 +56,7 @@ returns-then-negative c =
 
 pub put_digits-requires-2 : goal.put_digits-requires-2
 put_digits-requires-2 c =
-    (c.digit_count-count.ensures, omega (arith, c.requires.0, ap length (plain (goal.at.put_digits-requires-2 c).Else-negative), c.digit_count-count.ensures), c.requires.1)
+    (c.digit_count-count.ensures, omega (arith, c.requires, ap length (plain (goal.at.put_digits-requires-2 c).Else-negative), c.digit_count-count.ensures))
 
 pub returns : goal.returns
 returns c =

@@ -20,8 +20,8 @@ use Rattle.group.proofs.labelling.group_label.Goals as goal
 use Rattle.group.proofs.labelling.group_label.Goals.{Start}
 
 -- the group's first row is within the labels
-first : (c : Start) → let g = c.args.g in g.table.at + c.args.row * g.table.columns + g.table.columns ≤ length c.args.labels.now
-first c = inside (walk_from c.args.g (length c.args.labels.now) c.args.row c.requires.column_inside (omega arith)) c.requires.row_lt_rows.0
+first : (c : Start) → let g = c.args.g in g.table.at + c.args.led.row * g.table.columns + g.table.columns ≤ length c.args.labels.now
+first c = inside (walk_from c.args.g (length c.args.labels.now) c.args.led.row c.requires.column_inside (omega arith)) c.requires.row_lt_rows.0
 
 pub overflow_mul-first : goal.overflow_mul-first
 overflow_mul-first c = omega (arith, first (goal.at.overflow_mul-first c).Start)
@@ -50,21 +50,21 @@ loop-other-init c =
     let p = c.requires in
     let h = p.row_lt_rows.0 in
     let few : c.aggregate_code-code.result < 5 = rw c.aggregate_code-code.ensures (few-codes a.g.aggregate) in
-    let place = a.g.table.at + a.row * a.g.table.columns in
-    let k : a.g.table.at + (a.row + 1) * a.g.table.columns ≡ place + a.g.table.columns = omega arith in
-    let walk = walk_from a.g (length a.labels.now) a.row p.column_inside (omega arith) in (
-      walk-to _ walk (p.row_lt_rows.1.upto a.row h),
-      p.row_lt_rows.1.further a.row h,
+    let place = a.g.table.at + a.led.row * a.g.table.columns in
+    let k : a.g.table.at + (a.led.row + 1) * a.g.table.columns ≡ place + a.g.table.columns = omega arith in
+    let walk = walk_from a.g (length a.labels.now) a.led.row p.column_inside (omega arith) in (
+      walk-to _ walk (p.row_lt_rows.1.upto a.led.row h),
+      p.row_lt_rows.1.further a.led.row h,
       p.row_lt_rows.1,
       few,
       λ leaders values chain e q allowed.
           let M = cells_of values a.labels.now in
           let l = label-read values a.labels.now a.g.table.columns place a.g.column p.column_inside.has-column (inside-other (length values) walk h q) (inside walk h) in
-          let each = rw (rows_next a.g.table.columns a.g.table.rows a.row place M h) at allowed in
+          let each = rw (rows_next a.g.table.columns a.g.table.rows a.led.row place M h) at allowed in
           let start : c.with_label-all.result ≡ composed 0 (after_a (cell_at a.g.column (row_from a.g.table.columns M place)).label c.aggregate_code-code.result a.size) = rw l (c.with_label-all.ensures zero-well-formed (rw l at each.0) few) in
-          let later = each_chosen (Allowed a.g.column) a.row (drop (a.row + 1) leaders) (bare_rows a.g.table.columns (a.g.table.rows - (a.row + 1)) (drop (a.g.table.at + (a.row + 1) * a.g.table.columns) M)) (rw k each.1) in (
-            next-led chain a.row a.g.table.columns a.g.table.at M a.row h e,
-            rw (← (next-left chain a.row a.g.table.columns a.g.table.at M a.row h e)) (label-taken {row = row_from a.g.table.columns M place} (none-composed c.aggregate_code-code.result a.size a.g.column _ (each.0, later)) start),
+          let later = each_chosen (Allowed a.g.column) a.led.row (drop (a.led.row + 1) leaders) (bare_rows a.g.table.columns (a.g.table.rows - (a.led.row + 1)) (drop (a.g.table.at + (a.led.row + 1) * a.g.table.columns) M)) (rw k each.1) in (
+            next-led chain a.led.row a.g.table.columns a.g.table.at M a.led.row h e,
+            rw (← (next-left chain a.led.row a.g.table.columns a.g.table.at M a.led.row h e)) (label-taken {row = row_from a.g.table.columns M place} (none-composed c.aggregate_code-code.result a.size a.g.column _ (each.0, later)) start),
           ),
     )
 
@@ -107,8 +107,8 @@ loop-other-preserved c =
           let M = cells_of values a.labels.now in
           let t = i.4 leaders values chain e q allowed in
           let r = label-read values a.labels.now a.g.table.columns place a.g.column i.0.has-column (inside-other (length values) i.0 h q) (inside i.0 h) in
-          let u = rw (member-next chain a.row a.g.table.columns a.g.table.at M c.loop-other.other h (t.0 h)) at t.1 in
-          (next-led chain a.row a.g.table.columns a.g.table.at M c.loop-other.other h (t.0 h), label-taken u (rw r (c.with_label-all-in-loop-other.ensures u.formed (rw r at u.allowed.0) i.3))),
+          let u = rw (member-next chain a.led.row a.g.table.columns a.g.table.at M c.loop-other.other h (t.0 h)) at t.1 in
+          (next-led chain a.led.row a.g.table.columns a.g.table.at M c.loop-other.other h (t.0 h), label-taken u (rw r (c.with_label-all-in-loop-other.ensures u.formed (rw r at u.allowed.0) i.3))),
     )
 
 pub returns : goal.returns

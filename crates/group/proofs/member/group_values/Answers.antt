@@ -17,8 +17,8 @@ use Rattle.group.proofs.member.group_values.Goals as goal
 use Rattle.group.proofs.member.group_values.Goals.{Start}
 
 -- the group's first row is within the values
-first : (c : Start) → let g = c.args.g in g.table.at + c.args.row * g.table.columns + g.table.columns ≤ length c.args.values.now
-first c = inside (walk_from c.args.g (length c.args.values.now) c.args.row c.requires.column_inside (omega arith)) c.requires.row_lt_rows.0
+first : (c : Start) → let g = c.args.g in g.table.at + c.args.led.row * g.table.columns + g.table.columns ≤ length c.args.values.now
+first c = inside (walk_from c.args.g (length c.args.values.now) c.args.led.row c.requires.column_inside (omega arith)) c.requires.row_lt_rows.0
 
 pub overflow_mul-first : goal.overflow_mul-first
 overflow_mul-first c = omega (arith, first (goal.at.overflow_mul-first c).Start)
@@ -46,13 +46,13 @@ loop-other-init c =
     let a = c.args in
     let p = c.requires in
     let h = p.row_lt_rows.0 in
-    let further = p.row_lt_rows.1.further a.row h in (
-      walk-to _ (walk_from a.g (length a.values.now) a.row p.column_inside (omega arith)) (p.row_lt_rows.1.upto a.row h),
+    let further = p.row_lt_rows.1.further a.led.row h in (
+      walk-to _ (walk_from a.g (length a.values.now) a.led.row p.column_inside (omega arith)) (p.row_lt_rows.1.upto a.led.row h),
       further,
       p.row_lt_rows.1,
       λ leaders labels chain e q.
           let M = cells_of a.values.now labels in
-          (next-led chain a.row a.g.table.columns a.g.table.at M a.row h e, ap (λ (l : List Row). with_values c.single-all.result (column_values a.g.column l)) (next-left chain a.row a.g.table.columns a.g.table.at M a.row h e)),
+          (next-led chain a.led.row a.g.table.columns a.g.table.at M a.led.row h e, ap (λ (l : List Row). with_values c.single-all.result (column_values a.g.column l)) (next-left chain a.led.row a.g.table.columns a.g.table.at M a.led.row h e)),
     )
 
 pub overflow_mul-place : goal.overflow_mul-place
@@ -94,7 +94,7 @@ loop-other-preserved c =
           let v = value_read a.values.now labels a.g.table.columns (a.g.table.at + c.loop-other.other * a.g.table.columns) a.g.column i.0.has-column (inside i.0 h) (inside-other (length labels) i.0 h q) in
           let more : c.with_value-all.result ≡ with_value c.loop-other.all (cell_at a.g.column (row_from a.g.table.columns M (a.g.table.at + c.loop-other.other * a.g.table.columns))).value
           = c.with_value-all.ensures ∙ ap (with_value c.loop-other.all) (back_is _ c.with_value-arg-1.given ∙ sym v) in
-          (next-led chain a.row a.g.table.columns a.g.table.at M c.loop-other.other h (t.0 h), t.1 ∙ rw (more, member-next chain a.row a.g.table.columns a.g.table.at M c.loop-other.other h (t.0 h))),
+          (next-led chain a.led.row a.g.table.columns a.g.table.at M c.loop-other.other h (t.0 h), t.1 ∙ rw (more, member-next chain a.led.row a.g.table.columns a.g.table.at M c.loop-other.other h (t.0 h))),
     )
 
 pub returns : goal.returns
@@ -102,9 +102,9 @@ returns c =
     let a = c.args in
     λ leaders labels chain e q.
     let M = cells_of a.values.now labels in
-    let place = a.g.table.at + a.row * a.g.table.columns in
+    let place = a.g.table.at + a.led.row * a.g.table.columns in
     let z : a.g.table.rows - c.loop-other.other ≡ 0 = omega arith in
-    let walk = walk_from a.g (length labels) a.row q (omega arith) in
+    let walk = walk_from a.g (length labels) a.led.row q (omega arith) in
     let v = value_read a.values.now labels a.g.table.columns place a.g.column q.has-column (first (goal.at.returns c).Start) (inside walk c.requires.row_lt_rows.0) in
     let start : c.single-all.result ≡ single (cell_at a.g.column (row_from a.g.table.columns M place)).value
     = c.single-all.ensures ∙ ap single (back_is _ c.single-arg-1.given ∙ sym v) in

@@ -18,36 +18,36 @@ use Rattle.noise.proofs.Meaning.{NoiseFits, noise-parts, refused-noise, made-noi
 use Rattle.noise.proofs.noising.noise.Goals as goal
 use Rattle.noise.proofs.noising.noise.Goals.{After-live_table-top}
 
-fitted : (c : After-live_table-top) → let a = c.args in (fits (Noise a.column) [] (length a.values.now) (length a.labels.now) a.stack ≡ true) × (c.in_ok-columns.columns ≡ made_columns (Noise a.column) [] (widths_to a.stack a.stack.depth))
+fitted : (c : After-live_table-top) → let a = c.args in (fits (Noise a.column) [] (length a.cells.now.values.now) (length a.cells.now.labels.now) a.stack ≡ true) × (c.in_ok-columns.columns ≡ made_columns (Noise a.column) [] (widths_to a.stack a.stack.depth))
 fitted c = columns-fit _ _ (sym c.fit.ensures ∙ c.in_ok-columns.was)
 
-parts : (c : After-live_table-top) → let a = c.args in NoiseFits a.column (length a.values.now) (length a.labels.now) a.stack c.live_table-top.result c.in_ok-columns.columns
+parts : (c : After-live_table-top) → let a = c.args in NoiseFits a.column (length a.cells.now.values.now) (length a.cells.now.labels.now) a.stack c.live_table-top.result c.in_ok-columns.columns
 parts c = let a = c.args in noise-parts a.column [] _ _ a.stack _ _ c.live_table-top.ensures (fitted c).0 (fitted c).1
 
-pub returns-in_err-columns : goal.returns-in_err-columns
+pub returns-in_err-columns-clause-done : goal.returns-in_err-columns-clause-done
 unfolding columns_exist made_columns
-returns-in_err-columns c =
+returns-in_err-columns-clause-done c =
     let a = c.args in
     let same : c.from_residual.result ≡ Err error.DoesNotFit = search rules in
     λ tables marks room. rw same (unfit-done (Noise a.column) (supplied tables a.draws.now) _ _
-    (misfit-first a.column (supplied tables a.draws.now) (memory_of a.values.now a.labels.now marks) a.stack (not-even marks (columns-misfit _ _ (sym c.fit.ensures ∙ c.in_err-columns.was)))))
+    (misfit-first a.column (supplied tables a.draws.now) (memory_of a.cells.now.values.now a.cells.now.labels.now marks) a.stack (not-even marks (columns-misfit _ _ (sym c.fit.ensures ∙ c.in_err-columns.was)))))
 
-pub returns-in_err-refusal : goal.returns-in_err-refusal
+pub returns-in_err-refusal-clause-done : goal.returns-in_err-refusal-clause-done
 unfolding columns_exist made_columns
-returns-in_err-refusal c =
+returns-in_err-refusal-clause-done c =
     let a = c.args in
-    let top = (goal.at.returns-in_err-refusal c).After-live_table-top in
+    let top = (goal.at.returns-in_err-refusal-clause-done c).After-live_table-top in
     let wrong = c.in_err-refusal.field-0.0 in
     let same : c.from_residual-in_err-refusal.result ≡ Err wrong = search rules in
-    λ tables marks room. rw same (refused-noise a.column (supplied tables a.draws.now) (memory_of a.values.now a.labels.now marks) a.stack room (marks-too marks room (fitted top).0) (parts top)
+    λ tables marks room. rw same (refused-noise a.column (supplied tables a.draws.now) (memory_of a.cells.now.values.now a.cells.now.labels.now marks) a.stack room (marks-too marks room (fitted top).0) (parts top)
     wrong (sym (ap step_says c.in_err-refusal.was) ∙ c.refusal.ensures))
 
-pub returns : goal.returns
+pub returns-clause-done : goal.returns-clause-done
 unfolding columns_exist made_columns
-returns c =
+returns-clause-done c =
     let a = c.args in
-    let top = (goal.at.returns c).After-live_table-top in
+    let top = (goal.at.returns-clause-done c).After-live_table-top in
     let p = parts top in
     λ tables marks room. rw c.with_table.ensures
-    (made-noise a.column (supplied tables a.draws.now) (memory_of a.values.now a.labels.now marks) a.stack room (marks-too marks room (fitted top).0) p
+    (made-noise a.column (supplied tables a.draws.now) (memory_of a.cells.now.values.now a.cells.now.labels.now marks) a.stack room (marks-too marks room (fitted top).0) p
     (sym (ap step_says c.in_ok-refusal.was) ∙ c.refusal.ensures) (c.extend.ensures.made (c.extend.ensures.value ∙ extends-is p.inside_is p.narrow p.below)))

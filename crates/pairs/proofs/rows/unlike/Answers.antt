@@ -15,5 +15,5 @@ pub loop-i-preserved : goal.loop-i-preserved
 loop-i-preserved c =
     let a = c.args in
     let k = to_z w64 (of_z w64 a.key) in
-    one-more (λ j. eq_z k (get_or a.values.now (a.place + j * a.step) (pos 0)) ≡ false) c.loop-i.i c.loop-i.invariant
-    (as_bits a.key (get_or a.values.now (a.place + c.loop-i.i * a.step) (pos 0)) c.ranges.key (sfits_of c.is_key-1.given) c.if-is_key.false-raw)
+    one-more (λ j. eq_z k (get_or a.cells.now.values.now (a.place + j * a.step) (pos 0)) ≡ false) c.loop-i.i c.loop-i.invariant
+    (as_bits a.key (get_or a.cells.now.values.now (a.place + c.loop-i.i * a.step) (pos 0)) c.ranges.key (sfits_of c.is_key-1.given) c.if-is_key.false-raw)

@@ -8,4 +8,4 @@ use Rattle.value.specs.Equality.{eq_z}
 use Rattle.pairs.proofs.rows.unlike.Given as goal
 
 abbrev pub invariant-loop-i : goal.invariant-loop-i
-invariant-loop-i l = (j : ℕ) → j < l.i → eq_z l.key (get_or l.values (l.place + j * l.step) (pos 0)) ≡ false
+invariant-loop-i l = (j : ℕ) → j < l.i → eq_z l.key (get_or l.cells.values.now (l.place + j * l.step) (pos 0)) ≡ false

@@ -1,7 +1,0 @@
--- `moves::move_items`: the elements copied so far stand at `to`. Assumes nothing.
-use Rattle.std.proofs.Common.{take, drop}
-use Rattle.cells.specs.promises.Written.{Written}
-use Rattle.moves.proofs.move_items.Given as goal
-
-abbrev pub invariant-loop-i : goal.invariant-loop-i
-invariant-loop-i g l = Written l.initial.items l.to (take l.i (drop l.from l.initial.items)) l.items
