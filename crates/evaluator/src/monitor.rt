@@ -65,7 +65,9 @@ fn run_over(
     }
     let answer = match walk::walk(container, draws, overlays, cells, marks, trace) {
         Ok(left) => {
-            let told = release::release(cells, output, text, left.rows, left.columns);
+            let values = &mut *cells.values;
+            let labels = &mut *cells.labels;
+            let told = release::release(values, labels, output, text, left.rows, left.columns);
             run_answers::of_release(told, left.steps, left.rows, left.columns)
         }
         // Steps were taken, so work memory is cleared before this is answered; the two below come before the first step.

@@ -2,11 +2,11 @@
 #![tactic(auto)]
 
 ghost use Rattle.std.specs.Prelude.{◌≡◌, ◌*◌, ◌≤◌};
-ghost use Rattle.cells.specs.promises.Lent.{work_held};
+ghost use Rattle.cells.specs.promises.Work.{work};
 ghost use Rattle.release.specs.declared.ReleaseRefusal.TheVariants as refusal;
 ghost use Rattle.release.specs.promises.Release.{refusal_of, room_reply, release_reply, Releases};
 
-use cells::{Area, At, DoesNotFit, LentCells};
+use cells::{Area, At, DoesNotFit};
 use csv_writer::WritingError;
 
 // Why a table is not released: 35 or 36 at a cell; 51, where the text has no room; or that there is no table of that size in the slices, or no
@@ -42,27 +42,28 @@ impl From<WritingError> for ReleaseRefusal {
 // start of its slice if every cell is clear, none is OVER and the text has room, and answers the bytes of the text. Else both stay as they
 // are.
 pub fn release(
-    cells: &LentCells,
+    values: &[i64],
+    labels: &[u32],
     output: &mut [i64],
     text: &mut [u8],
     rows: usize,
     columns: usize,
 ) -> Result<usize, ReleaseRefusal>
-    ensures { Releases (release_reply (work_held cells.now) output.old text.old rows columns)
-        cells.now.values.now output.old text.old rows columns result output.new text.new }
+    ensures { Releases (release_reply (work values.now labels.now) output.old text.old rows columns)
+        values.now output.old text.old rows columns result output.new text.new }
 {
     let table = Area {
         at: 0,
         rows,
         columns,
     };
-    if let Some(at) = search::not_clear(cells.labels, table, 255)? {
+    if let Some(at) = search::not_clear(labels, table, 255)? {
         return Err(ReleaseRefusal::StageLeft(at));
     }
-    if let Some(at) = table_values::first_over(cells.values, table)? {
+    if let Some(at) = table_values::first_over(values, table)? {
         return Err(ReleaseRefusal::Over(at));
     }
-    write_table(cells.values, output, text, rows, columns)
+    write_table(values, output, text, rows, columns)
 }
 
 // Writes a table's text and then its values, where both have room, and answers the bytes of the text.

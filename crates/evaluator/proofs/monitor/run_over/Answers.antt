@@ -42,7 +42,7 @@ returns-in-Err-Input-clause-done c =
 evaluated : (c : Joined-walk) → let a = c.args in
     let g = given_of a.container.now a.draws.now (map (λ overlay. overlay.now) a.overlays.now) in
     Evaluated g (memory_of a.cells.now.values.now a.cells.now.labels.now a.marks.now) a.output.now a.trace.now a.text.now (run_says c.match-walk.answer)
-    (memory_held c.walk.new.cells c.walk.new.marks) c.match-walk.output c.walk.new.trace c.match-walk.text
+    (memory_held c.match-walk.cells c.walk.new.marks) c.match-walk.output c.walk.new.trace c.match-walk.text
 evaluated c =
     let a = c.args in
     let g = given_of a.container.now a.draws.now (map (λ overlay. overlay.now) a.overlays.now) in
@@ -51,10 +51,10 @@ evaluated c =
     elim c.match-walk.branch [
       | in-Ok w ↦
           let walked = rw w.in-Ok.is at c.walk.ensures.walked in
-          rw (w.output-is, w.text-is, w.answer-is) (steps-released g m a.output.now a.trace.now a.text.now long _ walked w.release-told.ensures w.of_release-answer.ensures)
+          rw (w.cells-is, w.output-is, w.text-is, w.answer-is) (steps-released g m a.output.now a.trace.now a.text.now long _ walked w.release-told.ensures w.of_release-answer.ensures)
       | in-Err-Step w ↦
           let walked = rw (w.in-Err-Step.is, w.in-Err-Step.field-0-is) at c.walk.ensures.walked in
-          rw (w.output-is, w.text-is, w.answer-is) (step-refused g m a.output.now a.trace.now a.text.now long w.in-Err-Step.step w.in-Err-Step.refusal walked)
+          rw (w.cells-is, w.output-is, w.text-is, w.answer-is) (step-refused g m a.output.now a.trace.now a.text.now long w.in-Err-Step.step w.in-Err-Step.refusal walked)
     ]
 
 pub returns-clause-done : goal.returns-clause-done
