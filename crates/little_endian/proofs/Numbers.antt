@@ -3,9 +3,12 @@ use Prim.Native.Nat.{ℕ, zero, suc, ◌+◌, ◌-◌, ◌*◌, ◌^◌, ◌≤�
 use mathlib.Core.Path.{◌≡◌, refl, sym, ap, ◌∙◌}
 use mathlib.Core.List.{List, [], ◌∷◌}
 use native.Mathlib.Nat.{zero-add, suc-add, pow-zero, pow-suc, one-mul, mul-zero, mul_assoc, mul_comm, min-le_left, add-sub_cancel_left}
+use native.Mathlib.Numerals.{add-one}
 use native.Mathlib.Omega.{arith}
 use lib.ListN.{length, get_or, take, drop, drop_of_length-le, length-take}
 use lib.Seq.{take-nil, take_all, drop-drop}
+use Rattle.std.specs.Array.{IsFirstChunk}
+use Rattle.std.specs.Int.{sum_through, byte_worth}
 use Rattle.little_endian.specs.Bytes.{little_endian, number_at, byte_at}
 
 one_byte : (l : List ℕ) (at : ℕ) → little_endian (take 1 (drop at l)) ≡ get_or l at 0
@@ -31,10 +34,28 @@ pub joined : (bytes : List ℕ) (at m n : ℕ) {x y : ℕ} → x ≡ number_at b
 unfolding number_at
 joined bytes at m n e f = rw (e, f, ← drop-drop m at bytes) (sym (parts m n (drop at bytes)))
 
+sum_of_bytes : (l : List ℕ) (n : ℕ) → sum_through (λ i. byte_worth i (get_or l i 0)) n ≡ little_endian (take (suc n) l)
+sum_of_bytes l zero = sym (one_byte l zero)
+sum_of_bytes l (suc n) =
+    let last : byte_worth (suc n) (get_or l (suc n) 0) ≡ 256 ^ suc n * little_endian (take 1 (drop (suc n) l)) = rw (one_byte l (suc n)) (mul_comm (get_or l (suc n) 0) (256 ^ suc n)) in
+    rw (← add-one (suc n), parts (suc n) 1 l, sum_of_bytes l n, last)
+
+-- the library's number of the first bytes
+pub of_chunk : {bytes chunk : List ℕ} (n : ℕ) → IsFirstChunk bytes chunk (suc n) → sum_through (λ i. byte_worth i (get_or chunk i 0)) n ≡ number_at bytes 0 (suc n)
+unfolding number_at
+of_chunk {bytes = bytes} {chunk = chunk} n is =
+    let whole : length chunk ≤ suc n = rw (is.same, length-take (suc n) bytes) (min-le_left (suc n) (length bytes)) in
+    sum_of_bytes chunk n ∙ ap little_endian (take_all (suc n) chunk whole ∙ is.same)
+
 -- past the end there is nothing to read
 pub past_end : (bytes : List ℕ) (at width : ℕ) → length bytes ≤ at → 0 ≡ number_at bytes at width
 unfolding number_at
 past_end bytes at width h = rw (drop_of_length-le bytes h, take-nil width)
+
+-- the number at the start of the bytes from a place on is the number at the place
+pub in_rest : (bytes : List ℕ) (at width : ℕ) {there : List ℕ} → there ≡ drop at bytes → number_at there 0 width ≡ number_at bytes at width
+unfolding number_at
+in_rest bytes at width e = ap (λ (l : List ℕ). little_endian (take width l)) e
 
 -- the number of the part from a place to the end of its bytes is the number at the place
 pub of_part : (bytes : List ℕ) (at width : ℕ) → number_at (take (at + width - at) (drop at bytes)) 0 width ≡ number_at bytes at width
