@@ -40,11 +40,11 @@ sum_of_bytes l (suc n) =
     let last : byte_worth (suc n) (get_or l (suc n) 0) ≡ 256 ^ suc n * little_endian (take 1 (drop (suc n) l)) = rw (one_byte l (suc n)) (mul_comm (get_or l (suc n) 0) (256 ^ suc n)) in
     rw (← add-one (suc n), parts (suc n) 1 l, sum_of_bytes l n, last)
 
--- the library's number of the first bytes
-pub of_chunk : {bytes chunk : List ℕ} (n : ℕ) → IsFirstChunk bytes chunk (suc n) → sum_through (λ i. byte_worth i (get_or chunk i 0)) n ≡ number_at bytes 0 (suc n)
+-- the library's number of the bytes of a chunk is the number at its place
+pub of_chunk : (bytes : List ℕ) (at n : ℕ) {chunk : List ℕ} → IsFirstChunk (drop at bytes) chunk (suc n) → sum_through (λ i. byte_worth i (get_or chunk i 0)) n ≡ number_at bytes at (suc n)
 unfolding number_at
-of_chunk {bytes = bytes} {chunk = chunk} n is =
-    let whole : length chunk ≤ suc n = rw (is.same, length-take (suc n) bytes) (min-le_left (suc n) (length bytes)) in
+of_chunk bytes at n {chunk = chunk} is =
+    let whole : length chunk ≤ suc n = rw (is.same, length-take (suc n) (drop at bytes)) (min-le_left (suc n) (length (drop at bytes))) in
     sum_of_bytes chunk n ∙ ap little_endian (take_all (suc n) chunk whole ∙ is.same)
 
 -- past the end there is nothing to read

@@ -1,7 +1,8 @@
 // Little-endian numbers in bytes. A byte past the end counts as 0, so that every read is defined.
 #![tactic(auto)]
 
-ghost use Rattle.std.specs.Prelude.{◌≡◌, drop};
+ghost use Rattle.std.specs.Array.{IsFirstChunk};
+ghost use Rattle.std.specs.Prelude.{◌≡◌, ◌+◌, ◌<◌, drop, length, MatchOption};
 ghost use Rattle.little_endian.specs.Bytes.{number_at, byte_at};
 
 // The byte at a place.
@@ -11,6 +12,13 @@ pub fn byte(bytes: &[u8], at: usize) -> u8
     if at < bytes.len() { bytes[at] } else { 0 }
 }
 
+// The N bytes from a place on, where all are there. `from_le_bytes` of them is one read.
+fn chunk<const N: usize>(bytes: &[u8], at: usize) -> Option<&[u8; N]>
+    ensures { MatchOption result (length bytes.now < at + N) (λ chunk. IsFirstChunk (drop at bytes.now) chunk.now N) }
+{
+    bytes.get(at..)?.first_chunk()
+}
+
 // The bytes from a place on: none past the end.
 fn rest(bytes: &[u8], at: usize) -> &[u8]
     ensures { result.now ≡ drop at bytes.now }
@@ -18,14 +26,13 @@ fn rest(bytes: &[u8], at: usize) -> &[u8]
     bytes.get(at..).unwrap_or(&[])
 }
 
-// The number of the two bytes from a place on. Here and below `from_le_bytes` is one read, where all the bytes are there.
+// The number of the two bytes from a place on.
 pub fn two(bytes: &[u8], at: usize) -> u16
     ensures { result ≡ number_at bytes.now at 2 }
 {
-    let there = rest(bytes, at);
-    match there.first_chunk() {
+    match chunk(bytes, at) {
         Some(all) => u16::from_le_bytes(*all),
-        None => byte(there, 0) as u16,
+        None => byte(bytes, at) as u16,
     }
 }
 
@@ -41,10 +48,12 @@ pub fn three(bytes: &[u8], at: usize) -> u32
 pub fn four(bytes: &[u8], at: usize) -> u32
     ensures { result ≡ number_at bytes.now at 4 }
 {
-    let there = rest(bytes, at);
-    match there.first_chunk() {
+    match chunk(bytes, at) {
         Some(all) => u32::from_le_bytes(*all),
-        None => two(there, 0) as u32 + 0x1_0000 * two(there, 2) as u32,
+        None => {
+            let there = rest(bytes, at);
+            two(there, 0) as u32 + 0x1_0000 * two(there, 2) as u32
+        }
     }
 }
 
@@ -52,9 +61,11 @@ pub fn four(bytes: &[u8], at: usize) -> u32
 pub fn eight(bytes: &[u8], at: usize) -> u64
     ensures { result ≡ number_at bytes.now at 8 }
 {
-    let there = rest(bytes, at);
-    match there.first_chunk() {
+    match chunk(bytes, at) {
         Some(all) => u64::from_le_bytes(*all),
-        None => four(there, 0) as u64 + 0x1_0000_0000 * four(there, 4) as u64,
+        None => {
+            let there = rest(bytes, at);
+            four(there, 0) as u64 + 0x1_0000_0000 * four(there, 4) as u64
+        }
     }
 }

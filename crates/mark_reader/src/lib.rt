@@ -33,25 +33,24 @@ pub fn read_marks(part: &[u8], table: usize, marks: &mut [u64], at: usize) -> bo
     true
 }
 
-// Writes the marks of the first rows of the table with this number.
+// Writes the marks of the first rows of the table with this number. Bytes 0 and 1 are read once, before the loop.
 #[tactic(auto, using(crate::proofs::Marks::one_mark))]
 fn write_marks(part: &[u8], table: usize, marks: &mut [u64])
     requires { (table < 65536) × (sheets_of part.now ≤ columns_of part.now) × (length marks.old < 65536) }
     ensures { marks.new ≡ spec.first_marks part.now table (length marks.old) }
 {
+    let columns = byte(part, 0) as usize;
+    let sheets = byte(part, 1) as usize;
     for (row, mark) in marks.iter_mut().enumerate() {
-        *mark = mark_of(part, table, row);
+        *mark = mark_of(part, table, sheets, columns, row);
     }
 }
 
 // The mark of a row: one of its own, or the value in the column that byte 1 names.
-fn mark_of(part: &[u8], table: usize, row: usize) -> u64
-    requires { (table < 65536) × (sheets_of part.now ≤ columns_of part.now) × (row < 65536) }
-    ensures { result ≡ mark_of (sheets_of part.now) table row
-        (cells_from part.now (row * columns_of part.now) (columns_of part.now)) }
+fn mark_of(part: &[u8], table: usize, sheets: usize, columns: usize, row: usize) -> u64
+    requires { (table < 65536) × (sheets ≤ columns) × (columns < 256) × (row < 65536) }
+    ensures { result ≡ mark_of sheets table row (cells_from part.now (row * columns) columns) }
 {
-    let columns = byte(part, 0) as usize;
-    let sheets = byte(part, 1) as usize;
     if sheets == 0 {
         return OWN + 256 * table as u64 + row as u64;
     }
