@@ -4,9 +4,10 @@ use mathlib.Core.Path.{◌≡◌, refl, sym, ap, ◌∙◌}
 use mathlib.Core.Bool.{Bool, true, false, cond}
 use mathlib.Core.List.{List, [], ◌∷◌, ◌++◌, append-nil, append_assoc}
 use native.Mathlib.Nat.{add-zero, add-suc, suc-add}
+use native.Mathlib.Numerals.{add-one}
 use native.Mathlib.Omega.{arith}
-use lib.ListN.{length, set, length-append, length-set}
-use lib.Seq.{sets, length-sets, set-append_left}
+use lib.ListN.{length, get_or, set, take, drop, length-append, length-set}
+use lib.Seq.{sets, length-sets, set-append_left, drop-cons, set_at, take-suc, append_snoc, length-take-le}
 use Rattle.conversion.specs.Conversion.{has_one, one_at, ones_among, ones_from, raised_at}
 use Rattle.conversion.specs.promises.Raising.{Raised}
 use Rattle.layout.specs.Layout.{offset_of, part_of}
@@ -103,3 +104,10 @@ module _ (part : List ℕ) (at cell : ℕ) {count : ℕ} {new offsets : List ℕ
   pub is_one : has_one (label_of part cell) ≡ true
       → Raised (one_at part at cell) count new offsets (count + 1) (set new (at + label_place cell) 2) (set offsets count (at + label_place cell))
   is_one e = rw e record { counted = refl; in-new = refl; in-offsets = refl }
+
+-- ---- the copy
+
+pub one-copied : (bytes old : List ℕ) (i : ℕ) → i < length bytes → i < length old → set (take i bytes ++ drop i old) i (get_or bytes i 0) ≡ take (i + 1) bytes ++ drop (i + 1) old
+one-copied bytes old i h k =
+    rw (drop-cons old i 0 k, set_at (take i bytes) (get_or old i 0) (drop (suc i) old) (get_or bytes i 0) i (length-take-le i bytes (omega arith)), add-one i, take-suc bytes i 0 h)
+    (sym (append_snoc (take i bytes) (get_or bytes i 0) (drop (suc i) old)))

@@ -62,12 +62,11 @@ pub fn convert(
     ensures { ended (conversion_says result) new.new offsets.new
         ≡ conversion container.now new.old offsets.old }
 {
-    let length = container.len();
-    if new.len() < length || offsets.len() < 8192 {
+    if new.len() < container.len() || offsets.len() < 8192 {
         return Err(ConversionRefusal::TooShort);
     }
     check_before(container)?;
-    new[..length].copy_from_slice(container);
+    raising::copy(container, new);
     Ok(raising::raise_tables(container, new, offsets))
 }
 

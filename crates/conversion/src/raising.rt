@@ -1,5 +1,5 @@
 // The bytes of the new container, and the offsets of the labels changed.
-ghost use Rattle.std.specs.Prelude.{◌≡◌, ◌+◌, ◌*◌, ◌≤◌, length};
+ghost use Rattle.std.specs.Prelude.{◌≡◌, ◌+◌, ◌*◌, ◌≤◌, ◌++◌, length, drop};
 ghost use Rattle.container.specs.Check.{accepted};
 ghost use Rattle.conversion.specs.Conversion.{check_before, one_at, ones_among, changed_labels};
 ghost use Rattle.conversion.specs.promises.Raising.{Raised};
@@ -8,6 +8,17 @@ ghost use Rattle.table_part.specs.TablePart.{label_place, cell_count};
 use layout::{part, part_count, part_offset};
 use little_endian::four;
 use table_part::cell_count;
+
+// Copies bytes to the start of a slice that has room for them. By a loop, of which the compiler makes a call of memcpy: of `copy_from_slice` it makes
+// one of memmove, which the library does not ask for (include/cilunovay.h).
+pub fn copy(bytes: &[u8], new: &mut [u8])
+    requires { length bytes.now ≤ length new.old }
+    ensures { new.new ≡ bytes.now ++ drop (length bytes.now) new.old }
+{
+    for i in 0..bytes.len() {
+        new[i] = bytes[i];
+    }
+}
 
 // Raises the label of a cell in the new container, if its minimum is 1, and writes its offset after the first `count`. Answers how many
 // offsets there are then. The table part begins at `at`. The two slices and the count stay parameters: the clauses of a struct that holds lent slices

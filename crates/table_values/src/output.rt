@@ -13,6 +13,8 @@ pub fn copy_out(values: &[i64], at: usize, count: usize, output: &mut [i64]) -> 
     if !cells::within(at, count, values.len()) || output.len() < count {
         return false;
     }
-    output[..count].copy_from_slice(&values[at..at + count]);
+    for i in 0..count {
+        output[i] = values[at + i];
+    }
     true
 }
