@@ -1,7 +1,7 @@
 // Moves of cells and of marks in work memory.
 #![tactic(auto)]
 
-ghost use Rattle.std.specs.Prelude.{◌≡◌, cond, length};
+ghost use Rattle.std.specs.Prelude.{◌≡◌, true, cond, length};
 ghost use Rattle.cells.specs.promises.Cells as spec;
 ghost use Rattle.cells.specs.promises.Lent.{SameCells};
 
@@ -15,10 +15,15 @@ pub fn move_cells(cells: &mut LentCells, from: usize, to: usize, count: usize) -
     ensures labels_after { cells.new.labels.now ≡ cond result (spec.moved from to count cells.old.labels.now) cells.old.labels.now }
     ensures same { SameCells cells.old cells.new }
 {
+    if !can_move(from, to, count, cells.values.len()) {
+        return false;
+    }
     if !can_move(from, to, count, cells.labels.len()) {
         return false;
     }
-    move_items(cells.values, from, to, count) && move_items(cells.labels, from, to, count)
+    move_items(cells.values, from, to, count);
+    move_items(cells.labels, from, to, count);
+    true
 }
 
 // The same of marks.
@@ -26,19 +31,21 @@ pub fn move_marks(marks: &mut [u64], from: usize, to: usize, count: usize) -> bo
     ensures value { result ≡ spec.can_move from to count (length marks.old) }
     ensures marks_after { marks.new ≡ cond result (spec.moved from to count marks.old) marks.old }
 {
-    move_items(marks, from, to, count)
-}
-
-// The same of the elements of any slice.
-fn move_items<T: Copy>(items: &mut [T], from: usize, to: usize, count: usize) -> bool
-    ensures value { result ≡ spec.can_move from to count (length items.old) }
-    ensures items_after { items.new ≡ cond result (spec.moved from to count items.old) items.old }
-{
-    if !can_move(from, to, count, items.len()) {
+    if !can_move(from, to, count, marks.len()) {
         return false;
     }
-    items.copy_within(from..from + count, to);
+    move_items(marks, from, to, count);
     true
+}
+
+// Copies the elements of any slice so, first to last.
+fn move_items<T: Copy>(items: &mut [T], from: usize, to: usize, count: usize)
+    requires { spec.can_move from to count (length items.old) ≡ true }
+    ensures { items.new ≡ spec.moved from to count items.old }
+{
+    for i in 0..count {
+        items[to + i] = items[from + i];
+    }
 }
 
 // Whether `count` elements of a slice of that length can be copied so.
