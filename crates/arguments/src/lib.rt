@@ -2,11 +2,11 @@
 #![tactic(auto)]
 
 ghost use Rattle.arguments.specs.Runs.{RanIf, RanOn, RanOnce};
+ghost use Rattle.std.specs.Io.KnownBytes.{Consumes};
 ghost use Rattle.std.specs.List.{FoldsTo, slice_get};
 ghost use Rattle.std.specs.Option.{option_map_or};
-ghost use Rattle.std.specs.Prelude.{◌≡◌, ℕ, List, [], Option, OnOk, ◌≤◌, length, take, vec_len, string_bytes, IfOk, IfSome};
+ghost use Rattle.std.specs.Prelude.{◌≡◌, ℕ, List, [], Option, OnOk, ◌≤◌, length, take, string_bytes, IfOk, IfSome};
 
-use std::alloc::Global;
 use std::env::Env;
 use std::fs::Files;
 use std::io::Read;
@@ -31,7 +31,7 @@ where
 // The same for the files of some names. Each name has an outcome, in their order: the bytes that the trial ran on, or none.
 fn for_each<R, F>(rt: &R, names: &[String], mut trial: F) -> io::Result<()>
 where
-    R: Files + Print + Eprint + AllocGlobal,
+    R: Files + Print + Eprint,
     F: FnMut(&[u8]) -> io::Result<()>,
     requires { F.IsAlwaysCallable trial }
     ensures { OnOk result ((tried : List (Option (List ℕ))) × (length tried ≡ length names.now)
@@ -46,14 +46,15 @@ where
 // Runs a trial on the bytes of one file.
 fn run_file<R, F>(rt: &R, name: &str, trial: &mut F) -> io::Result<()>
 where
-    R: Files + Print + Eprint + AllocGlobal,
+    R: Files + Print + Eprint,
     F: FnMut(&[u8]) -> io::Result<()>,
     requires { F.IsAlwaysCallable trial.old }
     ensures again { F.IsAlwaysCallable trial.new }
     ensures ran { OnOk result (RanOnce F.FnMut trial.old trial.new) }
 {
-    if let Some(bytes) = file_bytes(rt, name, true, MOST)? {
-        trial(&bytes)?;
+    let mut bytes = [0u8; MOST];
+    if let Some(length) = read_file(rt, name, true, &mut bytes)? {
+        trial(&bytes[..length])?;
     }
     Ok(())
 }
@@ -65,12 +66,16 @@ pub fn name_at(names: &[String], index: usize) -> &str
     names.get(index).map_or("", |name| name.as_str())
 }
 
-// The bytes of the file of a name, at most so many, or none where it can't be opened. Which bytes a file has, no contract can say. Where `named`,
-// prints the name: here, since it stands before what reading the file makes of it.
-pub fn file_bytes<R>(rt: &R, name: &str, named: bool, limit: usize) -> io::Result<Option<Vec<u8>>>
-where
-    R: Files + Print + Eprint + AllocGlobal,
-    ensures { IfOk result (λ found. IfSome found (λ bytes. vec_len bytes ≤ limit)) }
+// Reads the file of a name into the bytes, and answers how many it read, or none where the file can't be opened. Which bytes a file has, no contract
+// can say. Where `named`, prints the name: here, since it stands before what reading the file makes of it.
+pub fn read_file<R: Files + Print + Eprint>(
+    rt: &R,
+    name: &str,
+    named: bool,
+    bytes: &mut [u8],
+) -> io::Result<Option<usize>>
+    ensures within { IfOk result (λ found. IfSome found (λ read. read ≤ length bytes.new)) }
+    ensures room { length bytes.new ≡ length bytes.old }
 {
     let mut file = match fs::open(rt, name) {
         Ok(file) => file,
@@ -82,18 +87,25 @@ where
     if named {
         print!(rt; "{name}")?;
     }
-    let bytes = reader_bytes(rt.alloc(), &mut file, limit)?;
-    Ok(Some(bytes))
+    let read = read_full(&mut file, bytes)?;
+    Ok(Some(read))
 }
 
-// The first bytes that a reader gives, at most so many.
-pub fn reader_bytes<R: Read>(alloc: Global, reader: &mut R, limit: usize) -> io::Result<Vec<u8>>
-    ensures known { IfOk result (λ bytes. IfSome (R.remaining reader.old) (λ all. bytes.items ≡ take limit all)) }
-    ensures within { IfOk result (λ bytes. vec_len bytes ≤ limit) }
+// Reads until the bytes are full or the reader ends, and answers how many it read. Each reading asks for all that there is room for, so that a
+// reader which gives a message at a time cuts none.
+pub fn read_full<R: Read>(reader: &mut R, bytes: &mut [u8]) -> io::Result<usize>
+    ensures within { IfOk result (λ read. read ≤ length bytes.new) }
+    ensures room { length bytes.new ≡ length bytes.old }
+    ensures known { IfOk result (λ read. IfSome (R.remaining reader.old) (λ all. take read bytes.new ≡ take (length bytes.old) all)) }
+    ensures left { IfOk result (λ read. Consumes (R.remaining reader.old) (R.remaining reader.new) (take read bytes.new)) }
 {
-    let mut bytes = Vec::new(alloc);
-    reader.take(limit as u64).read_to_end(&mut bytes)?;
-    // Of a reader whose bytes are not known before, the library does not say that it stops at the limit.
-    bytes.truncate(limit);
-    Ok(bytes)
+    let mut read = 0;
+    while read < bytes.len() {
+        let more = reader.read(&mut bytes[read..])?;
+        if more == 0 {
+            break;
+        }
+        read += more;
+    }
+    Ok(read)
 }

@@ -3,15 +3,17 @@
 // standard output, and the X line to standard error.
 #![tactic(auto)]
 
+use arguments::{MOST, read_full};
 use std::io;
 
 fn main(rt: HostRuntime) -> io::Result<()> {
-    let bytes = arguments::reader_bytes(rt.alloc(), &mut rt.stdin(), arguments::MOST)?;
-    let mut new = vec![in rt.alloc(); 0u8; bytes.len()]?;
-    let mut offsets = vec![in rt.alloc(); 0u32; 8192]?;
-    match conversion::convert(&bytes, &mut new, &mut offsets) {
+    let mut bytes = [0u8; MOST];
+    let length = read_full(&mut rt.stdin(), &mut bytes)?;
+    let mut new = [0u8; MOST];
+    let mut offsets = [0u32; 8192];
+    match conversion::convert(&bytes[..length], &mut new, &mut offsets) {
         Ok(count) => {
-            rt.write_all(&new)?;
+            rt.write_all(&new[..length])?;
             changed(&rt, &offsets, count)
         }
         Err(refusal) => eprintln!(rt; "X {} {}", refusal.number(), refusal.place()),

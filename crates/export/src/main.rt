@@ -2,11 +2,12 @@
 // nothing there, and the X line to standard error. It lends no draws.
 #![tactic(auto)]
 
-use arguments::{MOST, reader_bytes};
+use arguments::{MOST, read_full};
 use std::io;
 
 fn main(rt: HostRuntime) -> io::Result<()> {
-    let container = reader_bytes(rt.alloc(), &mut rt.stdin(), MOST)?;
-    report::export(&rt, &container, &[])?;
+    let mut bytes = [0u8; MOST];
+    let length = read_full(&mut rt.stdin(), &mut bytes)?;
+    report::export(&rt, &bytes[..length], &[])?;
     Ok(())
 }

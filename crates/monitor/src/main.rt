@@ -2,11 +2,12 @@
 // no draws.
 #![tactic(auto)]
 
-use arguments::{MOST, reader_bytes};
+use arguments::{MOST, read_full};
 use std::io;
 
 fn main(rt: HostRuntime) -> io::Result<()> {
-    let container = reader_bytes(rt.alloc(), &mut rt.stdin(), MOST)?;
-    report::report(&rt, &container, &[])?;
+    let mut bytes = [0u8; MOST];
+    let length = read_full(&mut rt.stdin(), &mut bytes)?;
+    report::report(&rt, &bytes[..length], &[])?;
     Ok(())
 }

@@ -1,23 +1,24 @@
 // A file of draws: decimal numbers, one a line, with a minus sign where one is below zero.
-use std::alloc::{AllocError, Global};
+ghost use Rattle.std.specs.Prelude.{◌≤◌, length};
+
 use std::num::{wrapping_add_u64, wrapping_sub_u64};
 use value::pattern::signed;
 
-// More draws than a trial has.
-const MOST: usize = 2048;
-
-// The numbers of a text's lines, at most so many; what stands behind the last end of a line is none. They are read by hand: bytes that are no
-// digits add nothing, and numbers of 64 bits wrap, which no function of the library does.
-pub fn read(alloc: Global, text: &[u8]) -> Result<Vec<i64>, AllocError> {
-    let mut numbers = Vec::new(alloc);
+// Reads the numbers of a text's lines, and answers how many there are; past the last for which there is room, none. What stands behind the last end
+// of a line is none. They are read by hand: bytes that are no digits add nothing, and numbers of 64 bits wrap, which no function of the library does.
+pub fn read(text: &[u8], numbers: &mut [i64]) -> usize
+    ensures { result ≤ length numbers.new }
+{
+    let mut count = 0;
     let mut bits = 0;
     let mut negative = false;
     for &byte in text {
         if byte == b'\n' {
-            if numbers.len() == MOST {
+            let Some(place) = numbers.get_mut(count) else {
                 break;
-            }
-            numbers.push(number(bits, negative))?;
+            };
+            *place = number(bits, negative);
+            count += 1;
             bits = 0;
             negative = false;
         } else {
@@ -25,7 +26,7 @@ pub fn read(alloc: Global, text: &[u8]) -> Result<Vec<i64>, AllocError> {
             bits = with_digit(bits, byte);
         }
     }
-    Ok(numbers)
+    count
 }
 
 // A number of 64 bits with one digit more; another byte adds nothing.

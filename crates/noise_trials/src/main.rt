@@ -4,12 +4,15 @@
 
 mod draws;
 
-use arguments::{MOST, file_bytes, name_at};
+use arguments::{MOST, read_file, name_at};
 use std::fs::Files;
 use std::{env, io};
 
 // The most bytes that are read of the draws' text.
 const LONGEST: usize = 65536;
+
+// More draws than a trial has.
+const MOST_DRAWS: usize = 2048;
 
 // By twos: a container and its draws.
 fn main(rt: HostRuntime) -> io::Result<()> {
@@ -21,12 +24,16 @@ fn main(rt: HostRuntime) -> io::Result<()> {
 }
 
 // A name that is missing is that of a file that can't be opened.
-fn trial<R: Files + Print + Eprint + AllocGlobal>(rt: &R, names: &[String]) -> io::Result<()> {
-    let container = file_bytes(rt, name_at(names, 0), true, MOST)?;
-    let text = file_bytes(rt, name_at(names, 1), false, LONGEST)?;
-    if let (Some(container), Some(text)) = (container, text) {
+fn trial<R: Files + Print + Eprint>(rt: &R, names: &[String]) -> io::Result<()> {
+    let mut bytes = [0u8; MOST];
+    let mut text = [0u8; LONGEST];
+    let mut numbers = [0i64; MOST_DRAWS];
+    let length = read_file(rt, name_at(names, 0), true, &mut bytes)?;
+    let read = read_file(rt, name_at(names, 1), false, &mut text)?;
+    if let (Some(length), Some(read)) = (length, read) {
         println!(rt)?;
-        report::report(rt, &container, &draws::read(rt.alloc(), &text)?)?;
+        let count = draws::read(&text[..read], &mut numbers);
+        report::report(rt, &bytes[..length], &numbers[..count])?;
     }
     Ok(())
 }

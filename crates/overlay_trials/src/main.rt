@@ -2,7 +2,7 @@
 // line, and then what the monitor prints of it, lent no draws.
 #![tactic(auto)]
 
-use arguments::{MOST, file_bytes, name_at};
+use arguments::{MOST, read_file, name_at};
 use std::fs::Files;
 use std::{env, io};
 
@@ -15,35 +15,39 @@ fn main(rt: HostRuntime) -> io::Result<()> {
     Ok(())
 }
 
-fn trial<R: Files + Print + Eprint + AllocGlobal>(rt: &R, names: &[String]) -> io::Result<()> {
-    if let Some(container) = bytes(rt, names, 0)? {
+// A name that is missing is that of a file that can't be opened.
+fn trial<R: Files + Print + Eprint>(rt: &R, names: &[String]) -> io::Result<()> {
+    let mut bytes = [0u8; MOST];
+    if let Some(length) = read_file(rt, name_at(names, 0), true, &mut bytes)? {
         println!(rt)?;
-        overlaid(rt, &container, names)?;
+        overlaid(rt, &bytes[..length], names)?;
     }
     Ok(())
 }
 
 // Lends the four overlays that the names behind the first one have.
-fn overlaid<R: Files + Print + Eprint + AllocGlobal>(
+fn overlaid<R: Files + Print + Eprint>(
     rt: &R,
     container: &[u8],
     names: &[String],
 ) -> io::Result<()> {
-    let first = bytes(rt, names, 1)?;
-    let second = bytes(rt, names, 2)?;
-    let third = bytes(rt, names, 3)?;
-    let fourth = bytes(rt, names, 4)?;
+    let mut bytes_0 = [0u8; MOST];
+    let mut bytes_1 = [0u8; MOST];
+    let mut bytes_2 = [0u8; MOST];
+    let mut bytes_3 = [0u8; MOST];
+    let first = read_file(rt, name_at(names, 1), false, &mut bytes_0)?;
+    let second = read_file(rt, name_at(names, 2), false, &mut bytes_1)?;
+    let third = read_file(rt, name_at(names, 3), false, &mut bytes_2)?;
+    let fourth = read_file(rt, name_at(names, 4), false, &mut bytes_3)?;
     if let (Some(first), Some(second), Some(third), Some(fourth)) = (first, second, third, fourth) {
-        report::report_overlaid(rt, container, &first, &second, &third, &fourth)?;
+        report::report_overlaid(
+            rt,
+            container,
+            &bytes_0[..first],
+            &bytes_1[..second],
+            &bytes_2[..third],
+            &bytes_3[..fourth],
+        )?;
     }
     Ok(())
-}
-
-// The bytes of the file of a name; the first one's name is printed. One that is missing is that of a file that can't be opened.
-fn bytes<R: Files + Print + Eprint + AllocGlobal>(
-    rt: &R,
-    names: &[String],
-    index: usize,
-) -> io::Result<Option<Vec<u8>>> {
-    file_bytes(rt, name_at(names, index), index == 0, MOST)
 }
