@@ -4,7 +4,7 @@
 
 mod draws;
 
-use arguments::{MOST, read_file, name_at};
+use arguments::{MOST, name_at, read_file};
 use std::fs::Files;
 use std::{env, io};
 
