@@ -2,7 +2,7 @@
 // line, and then what the monitor prints of it, lent no draws.
 #![tactic(auto)]
 
-use arguments::{MOST, read_file, name_at};
+use arguments::{MOST, name_at, read_file};
 use std::fs::Files;
 use std::{env, io};
 

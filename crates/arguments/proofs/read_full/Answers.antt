@@ -14,6 +14,5 @@ pub loop-read-preserved : goal.loop-read-preserved
 loop-read-preserved g c =
     let before = c.loop-read.invariant in (
       search rules,
-      search rules,
-      subst (Consumes _ _) (read_behind _ _ _ _ _ before.1 c.in_ok-more.ensures.bound.0) (Consumes-trans _ _ _ _ _ before.2 c.in_ok-more.ensures.bytes.0),
+      subst (Consumes _ _) (read_behind _ _ _ _ _ before.0 c.in_ok-more.ensures.bound.0) (Consumes-trans _ _ _ _ _ before.1 c.in_ok-more.ensures.bytes.0),
     )
