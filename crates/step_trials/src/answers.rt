@@ -8,24 +8,24 @@ use std::io;
 use step::take_step;
 
 // Prints a case and its answer.
-pub fn print<R: Print>(rt: &R, case: Case, mut work: Work) -> io::Result<()> {
+pub fn print<R: Print>(rt: &R, case: Case<'_>, work: &mut Work) -> io::Result<()> {
     match case {
         Case::Step(step, container) => {
             let bytes = container.len();
             print!(rt; "{}", Shown { step, bytes })?;
-            take(rt, &mut work, &container, &[], step)?;
+            take(rt, work, container, &[], step)?;
         }
         Case::Noise(column, draws) => {
             let step = Step::Noise { column };
-            print!(rt; "{}{}", Shown { step, bytes: 0 }, Draws(&draws))?;
-            take(rt, &mut work, &[], &draws, step)?;
+            print!(rt; "{}{}", Shown { step, bytes: 0 }, Draws(draws))?;
+            take(rt, work, &[], draws, step)?;
         }
-        Case::Container(bytes) => digits(rt, &bytes)?,
-        Case::StagesLeft => stages_left(rt, &work)?,
-        Case::FirstOver => first_over(rt, &work)?,
+        Case::Container(bytes) => digits(rt, bytes)?,
+        Case::StagesLeft => stages_left(rt, work)?,
+        Case::FirstOver => first_over(rt, work)?,
         Case::Line(step) => trace(rt, step)?,
-        Case::Output(count, at) => output(rt, &work, count, at)?,
-        Case::Clear => clear(rt, &mut work)?,
+        Case::Output(count, at) => output(rt, work, count, at)?,
+        Case::Clear => clear(rt, work)?,
     }
     println!(rt)
 }
@@ -40,7 +40,7 @@ fn take<R: Print>(
 ) -> io::Result<()> {
     print!(rt; "{}", Given(work))?;
     let stack = work.stack;
-    let (mut cells, marks) = work.lent();
+    let (mut cells, marks) = work.lend();
     match take_step(container, draws, &mut cells, marks, stack, step) {
         Ok(made) => {
             work.stack = made;
@@ -53,13 +53,13 @@ fn take<R: Print>(
 
 fn stages_left<R: Print>(rt: &R, work: &Work) -> io::Result<()> {
     let table = live_table(work.stack, 0).area();
-    let left = trace_lines::stages_left(&work.labels, table);
+    let left = trace_lines::stages_left(work.labels(), table);
     print!(rt; "stages left{} {left}", Given(work))
 }
 
 fn first_over<R: Print>(rt: &R, work: &Work) -> io::Result<()> {
     let table = live_table(work.stack, 0).area();
-    let found = table_values::first_over(&work.values, table);
+    let found = table_values::first_over(work.values(), table);
     print!(rt; "first OVER{}{}", Given(work), Searched(found))
 }
 
@@ -81,7 +81,7 @@ fn trace<R: Print>(rt: &R, step: usize) -> io::Result<()> {
 // So many values from a place on, in an output of five places that holds sevens: the function under trial writes to it.
 fn output<R: Print>(rt: &R, work: &Work, count: usize, at: usize) -> io::Result<()> {
     let mut released = [7; 5];
-    let told = done(table_values::copy_out(&work.values, at, count, &mut released));
+    let told = done(table_values::copy_out(work.values(), at, count, &mut released));
     print!(rt; "output of {count} from {at}{}{told}", Given(work))?;
     print!(rt;
         "{}",
@@ -96,9 +96,9 @@ fn output<R: Print>(rt: &R, work: &Work, count: usize, at: usize) -> io::Result<
 
 // Work memory set to zero: its first cell, the last that is cleared, and the one behind it.
 fn clear<R: Print>(rt: &R, work: &mut Work) -> io::Result<()> {
-    let (mut cells, marks) = work.lent();
+    let (mut cells, marks) = work.lend();
     let told = done(zeros::clear_memory(&mut cells, marks));
-    let (values, labels) = (work.values.as_slice(), work.labels.as_slice());
+    let (values, labels) = (work.values(), work.labels());
     print!(rt;
         "clear gives{told}{}",
         Cells {

@@ -4,16 +4,15 @@ ghost use Rattle.step_trials.specs.Words.{short_of, part_of};
 
 use crate::reading::{bits, count, first, number, part, short};
 use plan::{Aggregate, Comparison, Operand, Step, Transform};
-use std::alloc::{AllocError, Global};
 use value::pattern::signed;
 
 // A step, SCAN with the bytes of its container; a NOISE of a column, with its draws; or a container, stages left, first OVER, a trace line, so many
 // values from a place on as an output, or memory set to zero.
 #[derive(Drop)]
-pub enum Case {
-    Step(Step, Vec<u8>),
-    Noise(usize, Vec<i64>),
-    Container(Vec<u8>),
+pub enum Case<'a> {
+    Step(Step, &'a [u8]),
+    Noise(usize, &'a [i64]),
+    Container(&'a [u8]),
     StagesLeft,
     FirstOver,
     Line(usize),
@@ -68,66 +67,63 @@ fn shape_of(head: &[u8]) -> Option<Shape> {
     )
 }
 
-// Reads a case, with the last line that has a container; or nothing, where a word can't be read.
-pub fn read(alloc: Global, line: &[u8], container: &[u8]) -> Result<Option<Case>, AllocError> {
+// Reads a case, with the last line that has a container; or nothing, where a word can't be read. Its bytes and draws stand in what is lent.
+pub fn read<'a>(
+    line: &[u8],
+    container: &[u8],
+    bytes: &'a mut [u8],
+    numbers: &'a mut [i64],
+) -> Option<Case<'a>> {
     let head = part(line, b':', 0);
-    let Some(shape) = shape_of(head) else {
-        return Ok(None);
-    };
-    Ok(match shape {
+    match shape_of(head)? {
         Shape::Scan => {
             let step = Step::Scan {
                 table: field(head, 1),
             };
-            decode(alloc, part(container, b' ', 1), field(head, 3))?.map(|bytes| Case::Step(
-                step, bytes,
-            ))
+            let bytes = decode(part(container, b' ', 1), field(head, 3), bytes)?;
+            Some(Case::Step(step, bytes))
         }
         Shape::Container => {
             let digits = part(line, b' ', 1);
-            decode(alloc, digits, digits.len() / 2)?.map(|bytes| Case::Container(bytes))
+            let bytes = decode(digits, digits.len() / 2, bytes)?;
+            Some(Case::Container(bytes))
         }
         Shape::Noise => {
-            let column = field(head, 1);
-            draws(alloc, part(head, b' ', 3))?.map(|draws| Case::Noise(column, draws))
+            let draws = draws(part(head, b' ', 3), numbers)?;
+            Some(Case::Noise(field(head, 1), draws))
         }
         Shape::StagesLeft => Some(Case::StagesLeft),
         Shape::FirstOver => Some(Case::FirstOver),
         Shape::Line => Some(Case::Line(field(head, 1))),
         Shape::Output => Some(Case::Output(field(head, 2), field(head, 4))),
         Shape::Clear => Some(Case::Clear),
-        _ => step(shape, head).map(|step| Case::Step(step, Vec::new(alloc))),
-    })
-}
-
-// So many bytes, of two digits each; at most 128.
-fn decode(alloc: Global, digits: &[u8], count: usize) -> Result<Option<Vec<u8>>, AllocError> {
-    let mut bytes = Vec::new(alloc);
-    for pair in digits.chunks_exact(2).take(count) {
-        match number(16, pair).map(u8::try_from) {
-            Some(Ok(byte)) => bytes.push(byte)?,
-            _ => return Ok(None),
-        }
+        shape => Some(Case::Step(step(shape, head)?, &[])),
     }
-    Ok((count <= 128 && bytes.len() == count).then_some(bytes))
 }
 
-// The draws that a word has, parted by commas, at most four; or none.
-fn draws(alloc: Global, word: &[u8]) -> Result<Option<Vec<i64>>, AllocError> {
-    let mut draws = Vec::new(alloc);
+// So many bytes, of two digits each; at most as many as there is room for.
+fn decode<'a>(digits: &[u8], count: usize, room: &'a mut [u8]) -> Option<&'a [u8]> {
+    let bytes = room.get_mut(..count)?;
+    let pairs = digits.chunks_exact(2);
+    if pairs.len() < count {
+        return None;
+    }
+    for (byte, pair) in bytes.iter_mut().zip(pairs) {
+        *byte = u8::try_from(number(16, pair)?).ok()?;
+    }
+    Some(bytes)
+}
+
+// The draws that a word has, parted by commas, at most as many as there is room for; or none.
+fn draws<'a>(word: &[u8], room: &'a mut [i64]) -> Option<&'a [i64]> {
     if word == b"none".as_slice() {
-        return Ok(Some(draws));
+        return Some(&[]);
     }
-    if 4 <= count(word, b',') {
-        return Ok(None);
+    let draws = room.get_mut(..=count(word, b','))?;
+    for (draw, text) in draws.iter_mut().zip(word.split(|byte| *byte == b',')) {
+        *draw = signed(bits(text)?);
     }
-    for draw in word.split(|byte| *byte == b',') {
-        match bits(draw) {
-            Some(bits) => draws.push(signed(bits))?,
-            None => return Ok(None),
-        }
-    }
-    Ok(Some(draws))
+    Some(draws)
 }
 
 // The number that a word is, where the shape has one there.

@@ -11,11 +11,15 @@ mod printing;
 mod reading;
 mod tables;
 
+use crate::cases::Case;
 use crate::reading::part;
+use crate::tables::Work;
 use std::io;
 
 fn main(rt: HostRuntime) -> io::Result<()> {
-    let input = arguments::reader_bytes(rt.alloc(), &mut rt.stdin(), 65536)?;
+    let mut input = [0u8; 65536];
+    let length = arguments::read_full(&mut rt.stdin(), &mut input)?;
+    let input = &input[..length];
     let mut container = &input[..0];
     for line in input.split(|byte| *byte == b'\n') {
         if part(line, b' ', 0) == b"container".as_slice() {
@@ -29,12 +33,20 @@ fn main(rt: HostRuntime) -> io::Result<()> {
 }
 
 // Runs the case of a line, with the last line that has a container.
-fn trial<R: Print + AllocGlobal>(rt: &R, line: &[u8], container: &[u8]) -> io::Result<()> {
+fn trial<R: Print>(rt: &R, line: &[u8], container: &[u8]) -> io::Result<()> {
+    let (mut bytes, mut numbers) = ([0; 128], [0; 4]);
+    match cases::read(line, container, &mut bytes, &mut numbers) {
+        Some(case) => answer(rt, line, case),
+        None => printing::unreadable(rt, line),
+    }
+}
+
+// Answers a case on the tables of its line.
+fn answer<R: Print>(rt: &R, line: &[u8], case: Case<'_>) -> io::Result<()> {
     let behind = part(line, b':', 0).len().wrapping_add(2);
-    let case = cases::read(rt.alloc(), line, container)?;
-    let work = tables::load(rt.alloc(), line.get(behind..).unwrap_or(&[]))?;
-    match (case, work) {
-        (Some(case), Some(work)) => answers::print(rt, case, work),
-        _ => printing::unreadable(rt, line),
+    let mut work = Work::new();
+    match work.load(line.get(behind..).unwrap_or(&[])) {
+        Some(()) => answers::print(rt, case, &mut work),
+        None => printing::unreadable(rt, line),
     }
 }

@@ -117,14 +117,14 @@ impl fmt::Display for Given<'_> {
     fn fmt<W: fmt::Write>(&self, f: &mut fmt::Formatter<W>) -> fmt::Result {
         let work = self.0;
         write!(f, ":")?;
-        if work.values.len() < 8192 {
-            write!(f, " {} values,", work.values.len())?;
+        if work.lent.values < 8192 {
+            write!(f, " {} values,", work.lent.values)?;
         }
-        if work.labels.len() < 8192 {
-            write!(f, " {} labels,", work.labels.len())?;
+        if work.lent.labels < 8192 {
+            write!(f, " {} labels,", work.lent.labels)?;
         }
-        if work.marks.len() < 1024 {
-            write!(f, " {} marks,", work.marks.len())?;
+        if work.lent.marks < 1024 {
+            write!(f, " {} marks,", work.lent.marks)?;
         }
         write!(f, "{work}")?;
         match work.stack.depth {
@@ -171,7 +171,7 @@ struct Rows<'a> {
 
 impl fmt::Display for Rows<'_> {
     fn fmt<W: fmt::Write>(&self, f: &mut fmt::Formatter<W>) -> fmt::Result {
-        let (values, labels) = (self.work.values.as_slice(), self.work.labels.as_slice());
+        let (values, labels) = (self.work.values(), self.work.labels());
         let (mut at, rows, count) = (self.at, self.rows, self.columns);
         if 8 < rows {
             let last = at.wrapping_add(rows).wrapping_sub(1);

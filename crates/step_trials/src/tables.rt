@@ -5,7 +5,6 @@ ghost use Rattle.step_trials.specs.Meanings.{word_of};
 use crate::reading::{bits, count, number, part, short};
 use cells::LentCells;
 use memory::{LiveTable, Stack, live_table, no_tables, with_table};
-use std::alloc::{AllocError, Global};
 use value::pattern::signed;
 
 // What stands between tables: a table of so many columns, a cell with the bits of its value and its label, a number, or a word by its name.
@@ -48,49 +47,65 @@ fn name(text: &[u8]) -> Option<Word> {
     }
 }
 
-// How many values, labels and marks of work memory are lent.
+// How many values, labels and marks of work memory are lent, where there are as many.
 #[derive(Clone, Copy)]
-struct Lent {
-    values: usize,
-    labels: usize,
-    marks: usize,
+pub struct Lent {
+    pub values: usize,
+    pub labels: usize,
+    pub marks: usize,
 }
 
-// Work memory, and the stack of the tables in it.
+// Work memory, the stack of the tables in it, and how much of it is lent.
 #[derive(Drop)]
 pub struct Work {
-    pub values: Vec<i64>,
-    pub labels: Vec<u32>,
-    pub marks: Vec<u64>,
+    values: [i64; 8200],
+    labels: [u32; 8200],
+    marks: [u64; 1032],
     pub stack: Stack,
+    pub lent: Lent,
 }
 
 impl Work {
-    // More than a step uses, each mark another one.
-    fn new(alloc: Global) -> Result<Work, AllocError> {
-        Ok(Work {
-            values: vec![in alloc; 0; 8200]?,
-            labels: vec![in alloc; 0; 8200]?,
-            marks: (0..1032).collect(alloc)?,
+    // More than a step uses.
+    pub fn new() -> Work {
+        Work {
+            values: [0; 8200],
+            labels: [0; 8200],
+            marks: [0; 1032],
             stack: no_tables(),
-        })
+            lent: Lent {
+                values: 8200,
+                labels: 8200,
+                marks: 1032,
+            },
+        }
+    }
+
+    pub fn values(&self) -> &[i64] {
+        &self.values[..self.lent.values.min(8200)]
+    }
+
+    pub fn labels(&self) -> &[u32] {
+        &self.labels[..self.lent.labels.min(8200)]
     }
 
     // The cells and the marks, as they are lent to a step.
-    pub fn lent(&mut self) -> (LentCells<'_>, &mut [u64]) {
+    pub fn lend(&mut self) -> (LentCells<'_>, &mut [u64]) {
+        let lent = self.lent;
+        let (values, labels, marks) = (&mut self.values, &mut self.labels, &mut self.marks);
         let cells = LentCells {
-            values: self.values.as_mut_slice(),
-            labels: self.labels.as_mut_slice(),
+            values: &mut values[..lent.values.min(8200)],
+            labels: &mut labels[..lent.labels.min(8200)],
         };
-        (cells, self.marks.as_mut_slice())
+        (cells, &mut marks[..lent.marks.min(1032)])
     }
 
     // Puts a cell at a place, and in all places behind it too.
     fn put(&mut self, at: usize, value: i64, label: u32) {
-        if let Some(values) = self.values.as_mut_slice().get_mut(at..) {
+        if let Some(values) = self.values.get_mut(at..) {
             values.fill(value);
         }
-        if let Some(labels) = self.labels.as_mut_slice().get_mut(at..) {
+        if let Some(labels) = self.labels.get_mut(at..) {
             labels.fill(label);
         }
     }
@@ -126,40 +141,32 @@ impl Work {
                 self.stack.depth = 4;
                 cells
             }
-            Word::Values | Word::Labels | Word::Marks | Word::Other => cells,
+            Word::Values => {
+                self.lent.values = cells;
+                cells
+            }
+            Word::Labels => {
+                self.lent.labels = cells;
+                cells
+            }
+            Word::Marks => {
+                self.lent.marks = cells;
+                cells
+            }
+            Word::Other => cells,
         }
     }
 
-    // Lends no more than that.
-    fn lend(&mut self, lent: Lent) {
-        self.values.truncate(lent.values);
-        self.labels.truncate(lent.labels);
-        self.marks.truncate(lent.marks);
-    }
-}
-
-// Work memory with the tables of a text, the first in slot 0; or nothing, where a word can't be read.
-pub fn load(alloc: Global, text: &[u8]) -> Result<Option<Work>, AllocError> {
-    let mut work = Work::new(alloc)?;
-    let mut cells = 0;
-    let mut lent = Lent {
-        values: 8200,
-        labels: 8200,
-        marks: 1032,
-    };
-    for piece in text.split_inclusive(|byte| *byte == b' ') {
-        let text = part(part(piece, b' ', 0), b';', 0);
-        let Some(word) = meaning(text, name(text)) else {
-            return Ok(None);
-        };
-        match word {
-            Word::Values => lent.values = cells,
-            Word::Labels => lent.labels = cells,
-            Word::Marks => lent.marks = cells,
-            _ => {}
+    // Puts the tables of a text in, the first in slot 0, with marks of which no two are the same; or answers nothing, where a word can't be read.
+    pub fn load(&mut self, text: &[u8]) -> Option<()> {
+        let mut cells = 0;
+        for piece in text.split_inclusive(|byte| *byte == b' ') {
+            let text = part(part(piece, b' ', 0), b';', 0);
+            cells = self.read(meaning(text, name(text))?, cells);
         }
-        cells = work.read(word, cells);
+        for (index, mark) in self.marks.iter_mut().enumerate() {
+            *mark = index as u64;
+        }
+        Some(())
     }
-    work.lend(lent);
-    Ok(Some(work))
 }
