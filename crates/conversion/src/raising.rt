@@ -9,8 +9,7 @@ use layout::{part, part_count, part_offset};
 use little_endian::four;
 use table_part::cell_count;
 
-// Copies bytes to the start of a slice that has room for them. By a loop, of which the compiler makes a call of memcpy: of `copy_from_slice` it makes
-// one of memmove, which the library does not ask for (include/cilunovay.h).
+// Copies bytes to the start of a slice that has room for them. By a loop, as `table_values::copy_out`.
 pub fn copy(bytes: &[u8], new: &mut [u8])
     requires { length bytes.now ≤ length new.old }
     ensures { new.new ≡ bytes.now ++ drop (length bytes.now) new.old }

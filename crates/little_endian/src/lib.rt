@@ -12,7 +12,7 @@ pub fn byte(bytes: &[u8], at: usize) -> u8
     if at < bytes.len() { bytes[at] } else { 0 }
 }
 
-// The N bytes from a place on, where all are there. `from_le_bytes` of them is one read.
+// The N bytes from a place on, where all are there.
 fn chunk<const N: usize>(bytes: &[u8], at: usize) -> Option<&[u8; N]>
     ensures { MatchOption result (length bytes.now < at + N) (λ chunk. IsFirstChunk (drop at bytes.now) chunk.now N) }
 {
@@ -26,7 +26,8 @@ fn rest(bytes: &[u8], at: usize) -> &[u8]
     bytes.get(at..).unwrap_or(&[])
 }
 
-// The number of the two bytes from a place on.
+// The number of the two bytes from a place on. Here and below by the `from_le_bytes` of the type, of which the compiler makes one read wherever it
+// is called. One function for every length would go over the bytes by a loop, which takes up to twice as long.
 pub fn two(bytes: &[u8], at: usize) -> u16
     ensures { result ≡ number_at bytes.now at 2 }
 {

@@ -55,7 +55,7 @@ pub struct Lent {
     pub marks: usize,
 }
 
-// Work memory, the stack of the tables in it, and how much of it is lent.
+// Work memory, the stack of the tables in it, and how much of it is lent. Arrays with lengths beside them, since the program calls no allocator.
 #[derive(Drop)]
 pub struct Work {
     values: [i64; 8200],
