@@ -38,11 +38,14 @@ pub fn move_marks(marks: &mut [u64], from: usize, to: usize, count: usize) -> bo
     true
 }
 
-// Copies the elements of any slice so, first to last.
+// Copies the elements of any slice so, first to last, unless they are there already, as the rows that a FILTER keeps are before the first that it drops.
 fn move_items<T: Copy>(items: &mut [T], from: usize, to: usize, count: usize)
     requires { spec.can_move from to count (length items.old) ≡ true }
     ensures { items.new ≡ spec.moved from to count items.old }
 {
+    if from == to {
+        return;
+    }
     for i in 0..count {
         items[to + i] = items[from + i];
     }
