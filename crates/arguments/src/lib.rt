@@ -92,8 +92,8 @@ pub fn read_file<R: Files + Print + Eprint>(
 }
 
 // Reads until the bytes are full or the reader ends, and answers how many it read. Each reading asks for all that there is room for, so that a
-// reader which gives a message at a time cuts none: `read_to_end` asks for 512 bytes first. Into bytes that are lent, so that the programs call no
-// allocator (docs/ASSURANCE.md).
+// reader which gives a message at a time cuts none: `read_to_end` asks for 512 bytes first. Into bytes that are lent, so that the programs
+// that read their input alone call no allocator (docs/ASSURANCE.md).
 pub fn read_full<R: Read>(reader: &mut R, bytes: &mut [u8]) -> io::Result<usize>
     ensures within { IfOk result (λ read. read ≤ length bytes.new) }
     ensures room { length bytes.new ≡ length bytes.old }
