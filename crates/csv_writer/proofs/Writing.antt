@@ -3,10 +3,9 @@ use Prim.Native.Nat.{ℕ, ◌+◌, ◌-◌, ◌/◌, ◌%◌, ◌≤◌, ◌<◌
 use mathlib.Core.Path.{◌≡◌, sym, ap, ◌∙◌}
 use mathlib.Core.List.{List, [], ◌∷◌, ◌++◌, append-nil, append_assoc}
 use native.Mathlib.Nat.{add-zero}
-use native.Mathlib.Numerals.{add-one}
 use native.Mathlib.Omega.{arith}
-use lib.ListN.{length, get_or, take, drop, set, length-append, length-drop}
-use lib.Seq.{take_all, length-take-le, take-suc, take-take, drop-drop, take-add, take-append_seam, drop-append_seam}
+use lib.ListN.{length, take, drop, set, length-append, length-drop}
+use lib.Seq.{take_all, length-take-le, take-take, drop-drop, take-add, take-append_seam, drop-append_seam}
 use Rattle.cells.specs.promises.Written.{Written}
 use Rattle.cells.proofs.Written.{nothing_written, one_written, then-written, as_long, below-written, from-written}
 use Rattle.csv_text.specs.Text.{digits}

@@ -26,8 +26,8 @@ fn rest(bytes: &[u8], at: usize) -> &[u8]
     bytes.get(at..).unwrap_or(&[])
 }
 
-// The number of the two bytes from a place on. Here and below by the `from_le_bytes` of the type, of which the compiler makes one read wherever it
-// is called. One function for every length would go over the bytes by a loop, which takes up to twice as long.
+// The number of the two bytes from a place on. This, `four` and `eight` are each by the `from_le_bytes` of its type, of which the compiler makes one read
+// wherever it is called. One function for every length would go over the bytes by a loop, which takes up to twice as long.
 pub fn two(bytes: &[u8], at: usize) -> u16
     ensures { result ≡ number_at bytes.now at 2 }
 {
